@@ -1,0 +1,66 @@
+-- `position` meets its contract. The invariant: the place in the whole list is `at` more than the place in what is left of it.
+-- Assumes nothing.
+use mathlib.Core.Path.{_≡_, sym, _∙_}
+use Prim.Native.Nat.{_+_, _-_, _≤_, _<_}
+use native.Mathlib.Numerals.{add-one}
+use lib.ListN.{length, take, drop}
+use lib.Seq.{getD-take}
+use Rattle.time_table.specs.Rows.{tasks}
+use Rattle.time_table.specs.Removal.{position}
+use Rattle.time_table.proofs.Position.{here, further, nowhere}
+use native.Mathlib.Omega.{arith}
+use Rattle.time_table.proofs.removal.position.Statement.{statement}
+use Rattle.time_table.proofs.removal.position.Tie as tie
+
+abbrev Inv-loop : tie.InvT-loop
+Inv-loop id count ids at₀ at = (at ≤ count) × (length (take count ids) ≡ count) × (count ≤ 32) × (position id (take count ids) ≡ at + position id (drop at (take count ids)))
+
+abbrev μ-loop : tie.MeasureT-loop
+μ-loop id count ids at₀ at = count - at
+
+loop-holds : tie.Need-loop-holds Inv-loop μ-loop
+loop-holds c = omega arith
+
+array-read-if1 : tie.Need-array-read-if1 Inv-loop μ-loop
+array-read-if1 c = omega arith
+
+returns : tie.Need-returns Inv-loop μ-loop
+returns c =
+    let p = c .before .before .loop in
+    let r = c .before .before .before .before .args in
+    let lt : p .at < length (tasks (r .profile)) = omega arith in
+    omega (arith, here (r .id) (tasks (r .profile)) (p .at) lt (getD-take _ _ _ _ (c .before .loop-test .taken) ∙ c .if1 .taken))
+
+add-at : tie.Need-add-at Inv-loop μ-loop
+add-at c = omega arith
+
+loop-less : tie.Need-loop-less Inv-loop μ-loop
+loop-less c = omega arith
+
+loop-again : tie.Need-loop-again Inv-loop μ-loop
+loop-again c =
+    let p = c .before .before .loop in
+    let r = c .before .before .before .before .args in
+    let lt : p .at < length (tasks (r .profile)) = omega arith in
+    let on = further (r .id) (tasks (r .profile)) (p .at) lt (λ e. c .if1 .left (sym (getD-take _ _ _ _ (c .before .loop-test .taken)) ∙ e)) in
+    (omega arith, omega arith, omega arith, rw add-one (omega arith))
+
+returns-2 : tie.Need-returns-2 Inv-loop μ-loop
+returns-2 c =
+    let p = c .before .loop in
+    let r = c .before .before .before .args in
+    omega (arith, nowhere (r .id) (tasks (r .profile)) (p .at) (omega arith))
+
+pub position-spec : {M : Type 1} → statement M
+position-spec =
+    tie.close
+    (tie.spec
+    Inv-loop
+    μ-loop
+    loop-holds
+    array-read-if1
+    returns
+    add-at
+    loop-less
+    loop-again
+    returns-2)

@@ -1,0 +1,12 @@
+pub mod Held
+pub mod Rows
+pub mod Order
+pub mod Table
+pub mod Pieces
+pub mod Adjustments
+pub mod Insertion
+pub mod Removal
+pub mod Overlap
+pub mod Overload
+pub mod Meaning
+pub mod Demand

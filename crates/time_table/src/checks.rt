@@ -1,0 +1,97 @@
+// The pieces that an insertion makes of a row (the Rust's checks.rs). What of the part lies before
+// the row is laid with it, so the piece before the first row and those between two are one check.
+ghost use mathlib.Core.Path.{_≡_};
+ghost use Prim.Native.Nat.{_+_, _<_, _^_};
+ghost use Rattle.time_table.specs.Rows.{Listed};
+ghost use Rattle.time_table.specs.Pieces.{Adds, beforePart, afterPart};
+ghost use Rattle.time_table.specs.Insertion.{alone, joined, gapBefore, heightened, Insertable};
+use crate::Part;
+use crate::Row;
+use crate::pieces;
+use crate::pieces::Pieces;
+
+// A row of the part's task alone, of no instants yet.
+pub(crate) fn new_profile(part: Part) -> Row
+    ensures { λ r. ⌜ r ≡ alone part ⌝ }
+{
+    let mut ids = [0u8; 32];
+    ids[0] = part.id;
+    Row {
+        start: 0,
+        end: 0,
+        height: part.usage,
+        ids,
+        count: 1,
+    }
+}
+
+// The row with one more task, put last.
+pub(crate) fn add_task_to_profile(profile: Row, part: Part) -> Row
+    requires { ⌜ Listed profile ⌝ }
+    requires { ⌜ (profile .count < 32) × (profile .height + part .usage < 2 ^ 32) ⌝ }
+    ensures { λ r. ⌜ r ≡ joined profile (part .id) (part .usage) ⌝ }
+{
+    let mut row = profile;
+    let at = row.count;
+    row.ids[at] = part.id;
+    row.count = at + 1;
+    row.height = row.height + part.usage;
+    row
+}
+
+// The uncovered piece before the row: before the first, or in the gap between two.
+pub(crate) fn new_profile_before_profile(part: Part, profile: Row, laid: Pieces) -> Pieces
+    requires { ⌜ laid .count < 4 ⌝ }
+    ensures { λ r. ⌜ Adds laid r (gapBefore part profile) ⌝ }
+{
+    laid.put(
+        new_profile(part),
+        part.from,
+        pieces::least(part.until, profile.start),
+    )
+}
+
+// The untouched left piece of the row.
+pub(crate) fn split_profile_added_part_starts_after_profile_start(
+    part: Part,
+    profile: Row,
+    laid: Pieces,
+) -> Pieces
+    requires { ⌜ (laid .count < 4) × (profile .end + 1 < 2 ^ 32) ⌝ }
+    ensures { λ r. ⌜ Adds laid r (beforePart part profile) ⌝ }
+{
+    laid.put(
+        profile,
+        profile.start,
+        pieces::least(part.from, profile.end + 1),
+    )
+}
+
+// The covered piece of the row, with the task.
+pub(crate) fn overlap_updated_profile(part: Part, profile: Row, laid: Pieces) -> Pieces
+    requires { ⌜ (Insertable part profile) × (laid .count < 4) ⌝ }
+    ensures { λ r. ⌜ Adds laid r (heightened part profile) ⌝ }
+{
+    let lower = pieces::greatest(part.from, profile.start);
+    let upper = pieces::least(part.until, profile.end + 1);
+    if upper <= lower {
+        return laid;
+    }
+    laid.put(add_task_to_profile(profile, part), lower, upper)
+}
+
+// The untouched right piece of the row.
+pub(crate) fn split_profile_added_part_ends_before_profile_end(
+    part: Part,
+    profile: Row,
+    laid: Pieces,
+) -> Pieces
+    requires { ⌜ (laid .count < 4) × (profile .end + 1 < 2 ^ 32) ⌝ }
+    ensures { λ r. ⌜ Adds laid r (afterPart part profile) ⌝ }
+{
+    laid.put(
+        profile,
+        pieces::greatest(part.until, profile.start),
+        profile.end + 1,
+    )
+}

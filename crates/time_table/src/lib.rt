@@ -1,0 +1,81 @@
+// The time-table of mandatory parts: rows of instants, the tasks that must run there and the sum of
+// their draws, and how a part of a task is put into the rows and taken out of them.
+//
+// A port of Pumpkin's over-interval time-table; the modules have the names of the files that they
+// follow. Instants are ticks, so that no number can stand for "none" (docs/DECISIONS.md).
+pub mod checks;
+pub mod insertion;
+pub mod mandatory_part_adjustments;
+mod pieces;
+pub mod removal;
+mod splice;
+pub mod time_table_over_interval_incremental;
+pub mod time_table_util;
+
+ghost use mathlib.Core.Path.{_≡_};
+ghost use mathlib.Core.List.{[]};
+ghost use Rattle.time_table.specs.Rows.{emptyRow, tableOf};
+
+// A part of a task: the instants from `from` up to but without `until`.
+pub struct Part {
+    pub from: u32,
+    pub until: u32,
+    pub id: u8,
+    pub usage: u32,
+}
+
+// A row (the Rust's ResourceProfile): the instants from `start` to `end`, both in it, the tasks that
+// must run there, in `ids` up to `count`, and the sum of their usages. Unused places are 0.
+pub struct Row {
+    pub start: u32,
+    pub end: u32,
+    pub height: u32,
+    pub ids: [u8; 32],
+    pub count: usize,
+}
+
+// The rows of a time-table, in `rows` up to `count`. From there on they are the empty row.
+pub struct Table {
+    pub rows: [Row; 128],
+    pub count: usize,
+}
+
+// A table after an edit; or `over`, and the table as it was.
+pub struct Edited {
+    pub over: bool,
+    pub table: Table,
+}
+
+impl Row {
+    // How many ids a row has room for.
+    pub const IDS: usize = 32;
+
+    // The row of no instant, no task and no height.
+    pub fn empty() -> Row
+        ensures { λ r. ⌜ r ≡ emptyRow ⌝ }
+    {
+        Row {
+            start: 0,
+            end: 0,
+            height: 0,
+            ids: [0u8; 32],
+            count: 0,
+        }
+    }
+}
+
+impl Table {
+    // How many rows a table has room for.
+    pub const ROWS: usize = 128;
+
+    // The table without a row.
+    pub fn empty() -> Table
+        ensures { λ r. ⌜ r ≡ tableOf [] ⌝ }
+    {
+        let empty = Row::empty();
+        Table {
+            rows: [empty; 128],
+            count: 0,
+        }
+    }
+}

@@ -1,0 +1,104 @@
+// A part taken out of the rows that list its task (the Rust's removal.rs). The Rust's
+// split_first_profile and split_last_profile are the two splits of checks.rt.
+ghost use mathlib.Core.Path.{_≡_};
+ghost use Prim.Native.Nat.{_+_, _≤_, _<_};
+ghost use Rattle.time_table.specs.Rows.{tasks, Listed, rowsOf};
+ghost use Rattle.time_table.specs.Table.{edited};
+ghost use Rattle.time_table.specs.Pieces.{Adds, heldPieces};
+ghost use Rattle.time_table.specs.Removal.{position, without, lessened, reduced, removal, Removable, CanRemove};
+use crate::Edited;
+use crate::Part;
+use crate::Row;
+use crate::Table;
+use crate::checks;
+use crate::pieces;
+use crate::pieces::Pieces;
+use crate::splice;
+use crate::time_table_over_interval_incremental::determine_profiles_to_update;
+
+// The place of a task in a row's list; the list's length if it has none.
+pub(crate) fn position(profile: Row, id: u8) -> usize
+    requires { ⌜ Listed profile ⌝ }
+    ensures { λ r. ⌜ r ≡ position id (tasks profile) ⌝ }
+{
+    let count = profile.count;
+    let ids = profile.ids;
+    let mut at = 0;
+    while at < count {
+        if ids[at] == id {
+            return at;
+        }
+        at += 1;
+    }
+    at
+}
+
+// The row without one of its tasks. The last of the list takes its place.
+pub(crate) fn remove_task_from_profile(profile: Row, part: Part) -> Row
+    requires { ⌜ Listed profile ⌝ }
+    requires { ⌜ (position (part .id) (tasks profile) < profile .count) × (part .usage ≤ profile .height) ⌝ }
+    ensures { λ r. ⌜ r ≡ without profile (part .id) (part .usage) ⌝ }
+{
+    let at = position(profile, part.id);
+    let mut row = profile;
+    let last = row.count - 1;
+    let moved = row.ids[last];
+    row.ids[at] = moved;
+    row.ids[last] = 0;
+    row.count = last;
+    row.height = row.height - part.usage;
+    row
+}
+
+// The covered piece of the row, without the task; none where no height is left.
+pub(crate) fn overlap_updated_profile(part: Part, profile: Row, laid: Pieces) -> Pieces
+    requires { ⌜ (Removable part profile) × (laid .count < 4) ⌝ }
+    ensures { λ r. ⌜ Adds laid r (lessened part profile) ⌝ }
+{
+    if profile.height == part.usage {
+        return laid;
+    }
+    let lower = pieces::greatest(part.from, profile.start);
+    let upper = pieces::least(part.until, profile.end + 1);
+    if upper <= lower {
+        return laid;
+    }
+    laid.put(remove_task_from_profile(profile, part), lower, upper)
+}
+
+// What a row becomes where the part is taken out.
+pub(crate) fn reduced_profile(part: Part, profile: Row) -> Pieces
+    requires { ⌜ Removable part profile ⌝ }
+    ensures { λ r. ⌜ heldPieces r (reduced part profile) ⌝ }
+{
+    let left = checks::split_profile_added_part_starts_after_profile_start(
+        part,
+        profile,
+        Pieces::none(),
+    );
+    let covered = overlap_updated_profile(part, profile, left);
+    checks::split_profile_added_part_ends_before_profile_end(part, profile, covered)
+}
+
+// Takes a part out of the rows that it meets, and tells if the table would have more rows than it has
+// room for.
+pub fn reduce_profiles_overlapping_with_added_mandatory_part(table: Table, part: Part) -> Edited
+    requires { ⌜ CanRemove part table ⌝ }
+    ensures { λ r. ⌜ r ≡ edited table (removal part (rowsOf table)) ⌝ }
+{
+    let found = determine_profiles_to_update(table, part);
+    let first = found.first;
+    let past = found.past;
+    let mut add = Table::empty();
+    let mut i = first;
+    while i < past {
+        let row = table.rows[i];
+        let laid = splice::extend(add, reduced_profile(part, row));
+        if laid.over {
+            return Edited { over: true, table };
+        }
+        add = laid.table;
+        i += 1;
+    }
+    splice::splice(table, first, past, add)
+}
