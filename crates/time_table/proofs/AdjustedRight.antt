@@ -13,11 +13,12 @@ use Rattle.time_table.specs.declared.Row.{Row}
 use Rattle.time_table.specs.declared.Part.{Part}
 use Rattle.time_table.specs.Order.{ticks}
 use Rattle.time_table.specs.Adjustments.{stretch, removedParts, addedParts}
-use Rattle.time_table.specs.Meaning.{bit, has, one, Right, Within, With, moved, removals, insertions}
+use Rattle.time_table.specs.Meaning.{Runs, bit, has, Right, Within, With}
+use Rattle.time_table.specs.Update.{moved, updatedRows, Puts, Takes, Steps}
 use Rattle.time_table.proofs.Adjusted.{stretch-none, stretch-some}
 use Rattle.time_table.proofs.Left.{left}
 use Rattle.time_table.proofs.Sums.{has-none, lt-or-le}
-use Rattle.time_table.proofs.Steps.{Runs, Puts, Takes, Steps, removals-right, insertions-right}
+use Rattle.time_table.proofs.Steps.{removals-right, insertions-right}
 
 -- truth values by their count
 same-count : (a b : Bool) → bit a ≡ bit b → a ≡ b
@@ -62,7 +63,7 @@ module _ (id : ℕ) (runs : Runs) where
       go true = more t
       go false = rw (none (has (p .from) (p .until) t)) (sym (add-zero _))
 
-  moved-within : (usage : ℕ → ℕ) (b : ℕ → Bool) → id < 32 → 0 < usage id → Within runs usage → Within (moved id b runs) usage
+  pub moved-within : (usage : ℕ → ℕ) (b : ℕ → Bool) → id < 32 → 0 < usage id → Within runs usage → Within (moved id b runs) usage
   moved-within usage b task draws within = record { few = few; draws = some; small = within .small }
     where
       few : (i t : ℕ) → 32 ≤ i → moved id b runs i t ≡ false
@@ -115,14 +116,15 @@ module _ (id : ℕ) (runs : Runs) (usage : ℕ → ℕ) (task : id < 32) (draws 
     stretch-put : Steps Puts usage (moved id big runs) ps last → Steps Puts usage (moved id small runs) (stretch p x y ++ ps) last
     stretch-put = stretch-step Puts x y small big ps last top (moved-with id runs (piece x y) mine small big more) flat
 
+-- the instants that two parts share
+abbrev pub both : Part → Part → ℕ → Bool
+both old new t = has (old .from) (old .until) t && has (new .from) (new .until) t
+
 -- from the old part of a task to the new one
 module _ (id : ℕ) (runs : Runs) (usage : ℕ → ℕ) (task : id < 32) (draws : 0 < usage id) (within : Within runs usage)
     (old new : Part) (was : old .id ≡ id) (is : new .id ≡ id) (drew : old .usage ≡ usage id) (draw : new .usage ≡ usage id)
     (low : old .until ≤ ticks) (high : new .until ≤ ticks) where
-  abbrev both : ℕ → Bool
-  both t = has (old .from) (old .until) t && has (new .from) (new .until) t
-
-  pub removed-steps : Steps Takes usage (moved id (has (old .from) (old .until)) runs) (removedParts old new) (moved id both runs)
+  pub removed-steps : Steps Takes usage (moved id (has (old .from) (old .until)) runs) (removedParts old new) (moved id (both old new) runs)
   removed-steps =
       let l = left old new in
       let o : ℕ → Bool = has (old .from) (old .until) in
@@ -130,28 +132,28 @@ module _ (id : ℕ) (runs : Runs) (usage : ℕ → ℕ) (task : id < 32) (draws 
       let first : (t : ℕ) → bit (o t) ≡ bit (mid t) + bit (has (l .a) (l .b) t) = λ t. count-without (o t) (has (l .a) (l .b) t) (omega (arith, l .counts t)) in
       rw (l .is, ← (append-nil (stretch old (l .c) (l .d))))
       (stretch-taken id runs usage task draws within old was drew (l .a) (l .b) mid o _ _ (omega (arith, l .first)) first
-      (stretch-taken id runs usage task draws within old was drew (l .c) (l .d) both mid [] _ (omega (arith, l .second))
+      (stretch-taken id runs usage task draws within old was drew (l .c) (l .d) (both old new) mid [] _ (omega (arith, l .second))
       (λ t. omega (arith, first t, l .counts t)) (λ i t. refl)))
 
-  pub added-steps : Steps Puts usage (moved id both runs) (addedParts old new) (moved id (has (new .from) (new .until)) runs)
+  pub added-steps : Steps Puts usage (moved id (both old new) runs) (addedParts old new) (moved id (has (new .from) (new .until)) runs)
   added-steps =
       let l = left new old in
       let n : ℕ → Bool = has (new .from) (new .until) in
       let o : ℕ → Bool = has (old .from) (old .until) in
-      let mid : ℕ → Bool = λ t. both t || has (l .a) (l .b) t in
-      let turned : (t : ℕ) → bit (both t) ≡ bit (n t && o t) = λ t. count-swap (o t) (n t) in
-      let first : (t : ℕ) → bit (mid t) ≡ bit (both t) + bit (has (l .a) (l .b) t) =
-      λ t. count-either (both t) (has (l .a) (l .b) t) (omega (arith, l .counts t, turned t, count-one (n t))) in
+      let mid : ℕ → Bool = λ t. both old new t || has (l .a) (l .b) t in
+      let turned : (t : ℕ) → bit (both old new t) ≡ bit (n t && o t) = λ t. count-swap (o t) (n t) in
+      let first : (t : ℕ) → bit (mid t) ≡ bit (both old new t) + bit (has (l .a) (l .b) t) =
+      λ t. count-either (both old new t) (has (l .a) (l .b) t) (omega (arith, l .counts t, turned t, count-one (n t))) in
       rw (l .is, ← (append-nil (stretch new (l .c) (l .d))))
-      (stretch-put id runs usage task draws within new is draw (l .a) (l .b) both mid _ _ (omega (arith, l .first)) first
+      (stretch-put id runs usage task draws within new is draw (l .a) (l .b) (both old new) mid _ _ (omega (arith, l .first)) first
       (stretch-put id runs usage task draws within new is draw (l .c) (l .d) mid n [] _ (omega (arith, l .second))
       (λ t. omega (arith, first t, l .counts t, turned t)) (λ i t. refl)))
 
   -- a table that is right for the old part becomes one that is right for the new part
   pub adjusted-right : (rows : List Row) → Right (moved id (has (old .from) (old .until)) runs) usage rows
-      → Right (moved id (has (new .from) (new .until)) runs) usage (insertions (addedParts old new) (removals (removedParts old new) rows))
+      → Right (moved id (has (new .from) (new .until)) runs) usage (updatedRows old new rows)
   adjusted-right rows right =
-      insertions-right usage _ (addedParts old new) (moved id both runs) _ added-steps (moved-within id runs usage both task draws within)
+      insertions-right usage _ (addedParts old new) (moved id (both old new) runs) _ added-steps (moved-within id runs usage (both old new) task draws within)
       (removals-right usage _ (removedParts old new) _ rows removed-steps (moved-within id runs usage (has (old .from) (old .until)) task draws within) right)
 
 -- a task that runs where its part is may be moved there

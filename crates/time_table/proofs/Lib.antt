@@ -28,4 +28,6 @@ pub mod AdjustedRight
 pub mod Demanded
 pub mod Overloaded
 pub mod Meets
+pub mod Edits
+pub mod Updates
 pub mod Examples

@@ -1,56 +1,32 @@
 -- Edits one after another: rows that are right stay right with each, and each can be made.
 -- Assumes nothing.
 use mathlib.Core.Path.{_≡_}
-use mathlib.Core.Bool.{Bool}
 use mathlib.Core.List.{List, [], _∷_}
 use Prim.Native.Nat.{ℕ}
 use Rattle.time_table.specs.declared.Row.{Row}
 use Rattle.time_table.specs.declared.Part.{Part}
 use Rattle.time_table.specs.declared.Table.{Table}
 use Rattle.time_table.specs.Rows.{rowsOf, Clean}
-use Rattle.time_table.specs.Insertion.{CanInsert}
-use Rattle.time_table.specs.Removal.{CanRemove}
-use Rattle.time_table.specs.Meaning.{Right, Within, PartOf, With, removals, insertions}
+use Rattle.time_table.specs.Insertion.{insertion, CanInsert}
+use Rattle.time_table.specs.Removal.{removal, CanRemove}
+use Rattle.time_table.specs.Meaning.{Runs, Right, Within, PartOf}
+use Rattle.time_table.specs.Update.{after, Puts, Takes, Steps}
 use Rattle.time_table.proofs.EditRight.{each-insertable, each-removable, insertion-right, removal-right}
-
--- which task must run at which instant
-abbrev pub Runs : Type 0
-Runs = ℕ → ℕ → Bool
-
--- what an insertion does to it, and a removal
-abbrev pub Puts : Part → Runs → Runs → Type 0
-Puts p runs next = With p runs next
-
-abbrev pub Takes : Part → Runs → Runs → Type 0
-Takes p runs next = With p next runs
-
--- one edit, after which R goes on
-pub record Step (E : Part → Runs → Runs → Type 0) (usage : ℕ → ℕ) (runs : Runs) (p : Part) (R : Runs → Type 0) : Type 0 where
-  pub next : Runs
-  pub of : PartOf usage p
-  pub goes : E p runs next
-  pub within : Within next usage
-  pub rest : R next
-
--- edits by these parts, one after another, lead from `runs` to `last`
-abbrev pub Steps : (Part → Runs → Runs → Type 0) → (ℕ → ℕ) → Runs → List Part → Runs → Type 0
-Steps E usage runs [] last = (i t : ℕ) → runs i t ≡ last i t
-Steps E usage runs (p ∷ ps) last = Step E usage runs p (λ (next : Runs). Steps E usage next ps last)
 
 pub right-as : (a b : Runs) (usage : ℕ → ℕ) (rows : List Row) → ((i t : ℕ) → a i t ≡ b i t) → Right a usage rows → Right b usage rows
 right-as a b usage rows e right = record { ordered = right .ordered; sound = right .sound; exact = λ t i. rw (← (e i t)) (right .exact t i) }
 
 module _ (usage : ℕ → ℕ) (last : Runs) where
   pub removals-right : (ps : List Part) (runs : Runs) (rows : List Row) → Steps Takes usage runs ps last → Within runs usage → Right runs usage rows
-      → Right last usage (removals ps rows)
-  unfolding removals
+      → Right last usage (after removal ps rows)
+  unfolding after
   removals-right [] runs rows s within right = right-as runs last usage rows s right
   removals-right (p ∷ ps) runs rows s within right =
       removals-right ps (s .next) _ (s .rest) (s .within) (removal-right runs (s .next) usage rows right within p (s .of) (s .goes))
 
   pub insertions-right : (ps : List Part) (runs : Runs) (rows : List Row) → Steps Puts usage runs ps last → Within runs usage → Right runs usage rows
-      → Right last usage (insertions ps rows)
-  unfolding insertions
+      → Right last usage (after insertion ps rows)
+  unfolding after
   insertions-right [] runs rows s within right = right-as runs last usage rows s right
   insertions-right (p ∷ ps) runs rows s within right =
       insertions-right ps (s .next) _ (s .rest) (s .within) (insertion-right runs (s .next) usage rows right within p (s .of) (s .goes))

@@ -5,7 +5,7 @@ use mathlib.Core.Bool.{Bool, cond, _||_}
 use mathlib.Core.List.{List, [], _∷_, _++_}
 use Prim.Native.Nat.{ℕ, _+_, _≤_}
 use lib.Dec.{ltb, leb}
-use lib.ListN.{length}
+use lib.ListN.{length, take}
 use Rattle.time_table.specs.declared.Part.{Part}
 use Rattle.time_table.specs.declared.mandatory_part_adjustments.Parts.{Parts}
 use Rattle.time_table.specs.declared.mandatory_part_adjustments.MandatoryPartAdjustments.{MandatoryPartAdjustments}
@@ -41,6 +41,9 @@ partsOf l = record { parts = pad 2 emptyPart l; count = length l }
 
 abbrev pub heldParts : Parts → List Part → Type 0
 heldParts p l = Held 2 emptyPart (p .parts) (p .count) l
+
+abbrev pub partsIn : Parts → List Part
+partsIn p = take (p .count) (p .parts)
 
 -- `r` has the parts of `p`, and then `xs`, which is one part at most
 abbrev pub AddsPart : Parts → Parts → List Part → Type 0

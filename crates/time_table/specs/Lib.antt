@@ -9,4 +9,5 @@ pub mod Removal
 pub mod Overlap
 pub mod Overload
 pub mod Meaning
+pub mod Update
 pub mod Demand

@@ -8,8 +8,6 @@ use Rattle.time_table.specs.declared.Row.{Row}
 use Rattle.time_table.specs.declared.Part.{Part}
 use Rattle.time_table.specs.Rows.{tasks, Listed}
 use Rattle.time_table.specs.Order.{Each, Ordered, ticks}
-use Rattle.time_table.specs.Insertion.{insertion}
-use Rattle.time_table.specs.Removal.{removal}
 
 -- the instant t lies in the interval from x up to but without y
 unfoldable pub has : ℕ → ℕ → ℕ → Bool
@@ -48,15 +46,19 @@ pub record Sound (usage : ℕ → ℕ) (r : Row) : Type 0 where
   pub high : r .height ≡ total usage (tasks r)
   pub some : 0 < r .count
 
+-- which task must run at which instant
+abbrev pub Runs : Type 0
+Runs = ℕ → ℕ → Bool
+
 -- the rows are right where `runs i t` says whether the task i must run at the instant t:
 -- they are sorted and disjoint, and at each instant they list each running task once, and no other
-pub record Right (runs : ℕ → ℕ → Bool) (usage : ℕ → ℕ) (rows : List Row) : Type 0 where
+pub record Right (runs : Runs) (usage : ℕ → ℕ) (rows : List Row) : Type 0 where
   pub ordered : Ordered ticks 0 rows
   pub sound : Each (Sound usage) rows
   pub exact : (t i : ℕ) → tally t i rows ≡ bit (runs i t)
 
 -- what a table can hold: only 32 tasks ever run, a task that runs draws something, and 32 draws fit a height
-pub record Within (runs : ℕ → ℕ → Bool) (usage : ℕ → ℕ) : Type 0 where
+pub record Within (runs : Runs) (usage : ℕ → ℕ) : Type 0 where
   pub few : (i t : ℕ) → 32 ≤ i → runs i t ≡ false
   pub draws : (i t : ℕ) → runs i t ≡ true → 0 < usage i
   pub small : (i : ℕ) → usage i < 2 ^ 27
@@ -69,18 +71,5 @@ pub record PartOf (usage : ℕ → ℕ) (p : Part) : Type 0 where
   pub same : p .usage ≡ usage (p .id)
 
 -- `big` has all that runs in `small`, and the part p besides, which is not in `small`
-abbrev pub With : Part → (ℕ → ℕ → Bool) → (ℕ → ℕ → Bool) → Type 0
+abbrev pub With : Part → Runs → Runs → Type 0
 With p small big = (t i : ℕ) → bit (big i t) ≡ bit (small i t) + cond (has (p .from) (p .until) t) (one i (p .id)) 0
-
--- the parts taken out of the rows one after another, and put in
-unfoldable pub removals : List Part → List Row → List Row
-removals [] rows = rows
-removals (p ∷ ps) rows = removals ps (removal p rows)
-
-unfoldable pub insertions : List Part → List Row → List Row
-insertions [] rows = rows
-insertions (p ∷ ps) rows = insertions ps (insertion p rows)
-
--- the same tasks run, but for the task id, which runs where b says
-abbrev pub moved : ℕ → (ℕ → Bool) → (ℕ → ℕ → Bool) → ℕ → ℕ → Bool
-moved id b runs i t = cond (eqb id i) (b t) (runs i t)

@@ -1,0 +1,4 @@
+pub mod Candidate
+pub mod Pass
+pub mod FirstFit
+pub mod Examples

@@ -1,0 +1,64 @@
+-- The pass over a table's rows, one row at a time: what is left to do is to settle the candidate over the rows from a place on.
+-- Assumes nothing.
+use mathlib.Core.Path.{_≡_, sym, ap, _∙_}
+use mathlib.Core.List.{_∷_}
+use Prim.Native.Nat.{ℕ, suc, _+_, _≤_, _<_, _^_}
+use native.Mathlib.Omega.{arith}
+use native.Mathlib.Numerals.{add-one}
+use lib.ListN.{length, drop, drop-of-length-le}
+use Rattle.time_table.specs.declared.Table.{Table}
+use Rattle.time_table.specs.Rows.{rowsOf, rowAt, Clean}
+use Rattle.time_table.specs.Order.{Ordered, ticks, Arranged}
+use Rattle.time_table.proofs.Orders.{ordered-from}
+use Rattle.time_table.proofs.Stretch.{next}
+use Rattle.fit.specs.declared.Asked.{Asked}
+use Rattle.fit.specs.FirstFit.{moved, settled, answer, firstFit}
+use Rattle.fit.proofs.Candidate.{settled-before, answer-late, room-some}
+
+-- the pass with the candidate `start` and the rows from `at` on before it
+pub record Passing (asked : Asked) (capacity : ℕ) (t : Table) (start at : ℕ) : Type 0 where
+  pub clean : Clean t
+  pub ordered : Ordered ticks 0 (drop at (rowsOf t))
+  pub within : at ≤ t .count
+  pub left : firstFit asked capacity (rowsOf t) ≡ answer asked (settled asked capacity start (drop at (rowsOf t)))
+
+pub pass-begins : (asked : Asked) (capacity : ℕ) (t : Table) → Arranged t → asked .usage ≤ capacity → Passing asked capacity t (asked .earliest) 0
+pass-begins asked capacity t h room =
+    record { clean = h .clean; ordered = h .ordered; within = omega arith; left = room-some asked capacity (rowsOf t) room }
+
+module _ {asked : Asked} {capacity : ℕ} {t : Table} {start at : ℕ} (p : Passing asked capacity t start at) where
+  -- a candidate past the bounds ends the pass, and so does the last row
+  pub pass-late : asked .latest < start → answer asked start ≡ firstFit asked capacity (rowsOf t)
+  pass-late h = sym (p .left ∙ answer-late asked capacity start (drop at (rowsOf t)) h)
+
+  pub pass-ends : t .count ≤ at → answer asked start ≡ firstFit asked capacity (rowsOf t)
+  unfolding settled
+  pass-ends h =
+      let past : length (rowsOf t) ≤ at = omega (arith, p .clean .counts) in
+      sym (rw (drop-of-length-le (rowsOf t) past) at (p .left))
+
+  module _ (lt : at < t .count) where
+    split : Ordered ticks 0 (rowAt (t .rows) at ∷ drop (suc at) (rowsOf t))
+    split = rw (next t at (p .clean) lt) at (p .ordered)
+
+    pub row-ends : rowAt (t .rows) at .end + 1 < 2 ^ 32
+    unfolding Ordered
+    row-ends = omega (arith, split .2)
+
+    -- a row behind the run ends it too
+    pub pass-stops : start + asked .run ≤ rowAt (t .rows) at .start → answer asked start ≡ firstFit asked capacity (rowsOf t)
+    unfolding Ordered
+    pass-stops h =
+        let rest = settled-before asked capacity ticks (rowAt (t .rows) at .start) start (rowAt (t .rows) at ∷ drop (suc at) (rowsOf t)) (omega arith, split .1, split .2, split .3) h in
+        sym (p .left ∙ ap (answer asked) (rw (next t at (p .clean) lt) rest))
+
+    -- else the row is passed
+    pub pass-goes : Passing asked capacity t (moved asked capacity start (rowAt (t .rows) at)) (at + 1)
+    unfolding Ordered settled
+    pass-goes =
+        record {
+          clean = p .clean;
+          ordered = rw (add-one at) (ordered-from ticks 0 (rowAt (t .rows) at .end + 1) (drop (suc at) (rowsOf t)) (omega arith) (split .3));
+          within = omega arith;
+          left = rw (add-one at) (rw (next t at (p .clean) lt) at (p .left));
+        }

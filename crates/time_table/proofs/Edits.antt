@@ -1,0 +1,142 @@
+-- Edits of a table one after another, part by part: what is over, what is left to do, and that the table stays one that can be edited.
+-- Assumes nothing.
+use mathlib.Core.Path.{_≡_, refl, sym, ap, _∙_}
+use mathlib.Core.Bool.{true, false, true≢false, false≢true}
+use mathlib.Core.Logic.{⊎-elim}
+use mathlib.Core.List.{List, [], _∷_}
+use Prim.Native.Nat.{ℕ, _+_, _≤_, _<_}
+use native.Mathlib.Numerals.{add-one}
+use native.Mathlib.Omega.{arith}
+use borrow.Author.Tests.{lt-ltb, le-ltb}
+use lib.ListN.{length, drop, getD, drop-of-length-le}
+use lib.Seq.{drop-cons, getD-take, take-append-seam}
+use Rattle.time_table.specs.declared.Row.{Row}
+use Rattle.time_table.specs.declared.Part.{Part}
+use Rattle.time_table.specs.declared.Table.{Table}
+use Rattle.time_table.specs.declared.Edited.{Edited}
+use Rattle.time_table.specs.declared.mandatory_part_adjustments.Parts.{Parts}
+use Rattle.time_table.specs.Rows.{rowsOf, tableOf, Clean}
+use Rattle.time_table.specs.Table.{edited}
+use Rattle.time_table.specs.Adjustments.{emptyPart, heldParts, partsIn}
+use Rattle.time_table.specs.Insertion.{insertion, CanInsert}
+use Rattle.time_table.specs.Removal.{removal, CanRemove}
+use Rattle.time_table.specs.Update.{after, overAfter, editedAll, Puts, Takes, Editable}
+use Rattle.time_table.proofs.Held.{held-as}
+use Rattle.time_table.proofs.EditRight.{insertion-right, removal-right}
+use Rattle.time_table.proofs.Steps.{can-insert, can-remove}
+use Rattle.time_table.proofs.Sums.{lt-or-le}
+
+-- a table of rows has those rows, and a clean table is that of its rows
+pub rows-of : (l : List Row) → rowsOf (tableOf l) ≡ l
+rows-of l = take-append-seam l _
+
+pub clean-of : (l : List Row) → length l ≤ 128 → Clean (tableOf l)
+clean-of l le = held-as (record { is = refl; counts = refl; fits = le }) (sym (rows-of l))
+
+pub table-self : (t : Table) → Clean t → tableOf (rowsOf t) ≡ t
+table-self t h = λ i. record { rows = sym (h .is) i; count = sym (h .counts) i }
+
+-- what the answer of an edit says
+pub edit-over : (t : Table) (l : List Row) (e : Edited) → e ≡ edited t l → e .over ≡ true → 128 < length l
+unfolding edited
+edit-over t l e is over =
+    ⊎-elim (λ lt. lt)
+    (λ le.
+    let fits : e ≡ record { over = false; table = tableOf l } = rw (le-ltb 128 (length l) le) at is in
+    absurd (false≢true (sym (ap (λ (x : Edited). x .over) fits) ∙ over)))
+    (lt-or-le 128 (length l))
+
+pub record Fitting (e : Edited) (l : List Row) : Type 0 where
+  pub few : length l ≤ 128
+  pub is : e .table ≡ tableOf l
+
+pub edit-fits : (t : Table) (l : List Row) (e : Edited) → e ≡ edited t l → e .over ≡ false → Fitting e l
+unfolding edited
+edit-fits t l e is fits =
+    ⊎-elim
+    (λ lt.
+    let full : e ≡ record { over = true; table = t } = rw (lt-ltb 128 (length l) lt) at is in
+    absurd (true≢false (sym (ap (λ (x : Edited). x .over) full) ∙ fits)))
+    (λ le.
+    let whole : e ≡ record { over = false; table = tableOf l } = rw (le-ltb 128 (length l) le) at is in
+    record { few = le; is = ap (λ (x : Edited). x .table) whole })
+    (lt-or-le 128 (length l))
+
+module _ (edit : Part → List Row → List Row) where
+  pub over-here : (p : Part) (ps : List Part) (rows : List Row) → 128 < length (edit p rows) → overAfter edit (p ∷ ps) rows ≡ true
+  unfolding overAfter
+  over-here p ps rows lt = rw (lt-ltb 128 (length (edit p rows)) lt)
+
+  over-later : (p : Part) (ps : List Part) (rows : List Row) → length (edit p rows) ≤ 128 → overAfter edit (p ∷ ps) rows ≡ overAfter edit ps (edit p rows)
+  unfolding overAfter
+  over-later p ps rows le = rw (le-ltb 128 (length (edit p rows)) le)
+
+  -- the parts `ps` of the table t are down to the parts `rest` of the table `now`
+  pub record Down (ps : List Part) (t : Table) (rest : List Part) (now : Table) : Type 0 where
+    pub rows : after edit ps (rowsOf t) ≡ after edit rest (rowsOf now)
+    pub over : overAfter edit ps (rowsOf t) ≡ overAfter edit rest (rowsOf now)
+
+  pub down-over : {ps : List Part} {t now : Table} (p : Part) (rest : List Part) (e : Edited) → Down ps t (p ∷ rest) now → e ≡ edited now (edit p (rowsOf now)) → e .over ≡ true
+      → _≡_ {A = Edited} (record { over = true; table = t }) (editedAll edit ps t)
+  unfolding editedAll
+  down-over {ps} {t} {now} p rest e d is over =
+      rw (d .over, over-here p rest (rowsOf now) (edit-over now (edit p (rowsOf now)) e is over))
+
+  pub down-on : {ps : List Part} {t now : Table} (p : Part) (rest : List Part) (e : Edited) → Down ps t (p ∷ rest) now → Fitting e (edit p (rowsOf now)) → Down ps t rest (e .table)
+  unfolding after
+  down-on {ps} {t} {now} p rest e d f =
+      rw (f .is)
+      (record {
+        rows = rw (rows-of (edit p (rowsOf now))) (d .rows);
+        over = rw (rows-of (edit p (rowsOf now))) (d .over ∙ over-later p rest (rowsOf now) (f .few));
+      })
+
+  pub down-all : {ps : List Part} {t now : Table} → Clean now → Down ps t [] now → _≡_ {A = Edited} (record { over = false; table = now }) (editedAll edit ps t)
+  unfolding editedAll after overAfter
+  down-all {ps} {t} {now} clean d = rw (d .over, d .rows, table-self now clean)
+
+-- the next of some parts
+pub part-next : (parts : Parts) (k : ℕ) → heldParts parts (partsIn parts) → k < parts .count
+    → drop k (partsIn parts) ≡ getD (parts .parts) k emptyPart ∷ drop (k + 1) (partsIn parts)
+part-next parts k h lt =
+    let inside : k < length (partsIn parts) = omega arith in
+    rw (add-one k, ← (getD-take (parts .count) (parts .parts) k emptyPart lt)) (drop-cons (partsIn parts) k emptyPart inside)
+
+pub part-end : (parts : Parts) (k : ℕ) → heldParts parts (partsIn parts) → parts .count ≤ k → drop k (partsIn parts) ≡ []
+part-end parts k h le =
+    let past : length (partsIn parts) ≤ k = omega arith in
+    drop-of-length-le (partsIn parts) past
+
+-- the first of some edits can be made, and after it the others
+module _ (p : Part) (ps : List Part) (t : Table) where
+  pub remove-first : Editable Takes (p ∷ ps) t → CanRemove p t
+  remove-first s = can-remove t (s .runs) (s .steps .next) (s .usage) (s .clean) (s .right) (s .within) p (s .steps .of) (s .steps .goes)
+
+  pub insert-first : Editable Puts (p ∷ ps) t → CanInsert p t
+  insert-first s = can-insert t (s .runs) (s .steps .next) (s .usage) (s .clean) (s .right) (s .within) p (s .steps .of) (s .steps .goes)
+
+  pub remove-on : (e : Edited) → Editable Takes (p ∷ ps) t → Fitting e (removal p (rowsOf t)) → Editable Takes ps (e .table)
+  remove-on e s f =
+      rw (f .is)
+      (record {
+        runs = s .steps .next;
+        usage = s .usage;
+        last = s .last;
+        clean = clean-of (removal p (rowsOf t)) (f .few);
+        right = rw (rows-of (removal p (rowsOf t))) (removal-right (s .runs) (s .steps .next) (s .usage) (rowsOf t) (s .right) (s .within) p (s .steps .of) (s .steps .goes));
+        within = s .steps .within;
+        steps = s .steps .rest;
+      })
+
+  pub insert-on : (e : Edited) → Editable Puts (p ∷ ps) t → Fitting e (insertion p (rowsOf t)) → Editable Puts ps (e .table)
+  insert-on e s f =
+      rw (f .is)
+      (record {
+        runs = s .steps .next;
+        usage = s .usage;
+        last = s .last;
+        clean = clean-of (insertion p (rowsOf t)) (f .few);
+        right = rw (rows-of (insertion p (rowsOf t))) (insertion-right (s .runs) (s .steps .next) (s .usage) (rowsOf t) (s .right) (s .within) p (s .steps .of) (s .steps .goes));
+        within = s .steps .within;
+        steps = s .steps .rest;
+      })

@@ -1,0 +1,123 @@
+-- An update of a table: the removed parts lead from the old part to what both parts share, and the added ones from there to the new part.
+-- Assumes nothing.
+use mathlib.Core.Path.{_≡_, refl, sym, ap, _∙_}
+use mathlib.Core.Bool.{Bool, true, false, cond, true≢false, false≢true}
+use mathlib.Core.Logic.{⊎-elim}
+use mathlib.Core.List.{List, [], _∷_}
+use Prim.Native.Nat.{ℕ, _≤_}
+use native.Mathlib.Omega.{arith}
+use borrow.Author.Tests.{lt-ltb, le-ltb}
+use lib.ListN.{length, length-append}
+use lib.Seq.{take-append-seam}
+use Rattle.time_table.specs.declared.Row.{Row}
+use Rattle.time_table.specs.declared.Part.{Part}
+use Rattle.time_table.specs.declared.Table.{Table}
+use Rattle.time_table.specs.declared.Edited.{Edited}
+use Rattle.time_table.specs.Rows.{rowsOf, tableOf}
+use Rattle.time_table.specs.Adjustments.{stretch, leftOf, partsOf, partsIn, heldParts, removedParts, addedParts}
+use Rattle.time_table.specs.Insertion.{insertion}
+use Rattle.time_table.specs.Removal.{removal}
+use Rattle.time_table.specs.Meaning.{has}
+use Rattle.time_table.specs.Update.{moved, after, overAfter, editedAll, updated, Puts, Takes, Editable, Updatable}
+use Rattle.time_table.proofs.Held.{held-as}
+use Rattle.time_table.proofs.Adjusted.{stretch-none, stretch-some}
+use Rattle.time_table.proofs.Left.{left}
+use Rattle.time_table.proofs.Steps.{removals-right}
+use Rattle.time_table.proofs.AdjustedRight.{both, removed-steps, added-steps, moved-within}
+use Rattle.time_table.proofs.Edits.{rows-of, clean-of}
+use Rattle.time_table.proofs.Sums.{lt-or-le}
+
+-- an adjustment has two parts at most on each side
+stretch-short : (p : Part) (x y : ℕ) → length (stretch p x y) ≤ 1
+stretch-short p x y = ⊎-elim (λ lt. rw (stretch-some p x y lt) (omega arith)) (λ ge. rw (stretch-none p x y ge) (omega arith)) (lt-or-le x y)
+
+left-short : (p q : Part) → length (leftOf p q) ≤ 2
+left-short p q =
+    let l = left p q in
+    rw (l .is, length-append) (omega (arith, stretch-short p (l .a) (l .b), stretch-short p (l .c) (l .d)))
+
+pub parts-in : (l : List Part) → partsIn (partsOf l) ≡ l
+parts-in l = take-append-seam l _
+
+pub left-held : (p q : Part) → heldParts (partsOf (leftOf p q)) (partsIn (partsOf (leftOf p q)))
+left-held p q = held-as (record { is = refl; counts = refl; fits = left-short p q }) (sym (parts-in (leftOf p q)))
+
+-- what the answer of several edits says
+module _ (edit : Part → List Row → List Row) where
+  pub all-over : (ps : List Part) (t : Table) (e : Edited) → e ≡ editedAll edit ps t → e .over ≡ true → overAfter edit ps (rowsOf t) ≡ true
+  unfolding editedAll
+  all-over ps t e is over = go (overAfter edit ps (rowsOf t)) is
+    where
+      go : (b : Bool) → e ≡ cond b (record { over = true; table = t }) (record { over = false; table = tableOf (after edit ps (rowsOf t)) }) → b ≡ true
+      go true f = refl
+      go false f = absurd (false≢true (sym (ap (λ (x : Edited). x .over) f) ∙ over))
+
+  pub record AllFit (ps : List Part) (t : Table) (e : Edited) : Type 0 where
+    pub fits : overAfter edit ps (rowsOf t) ≡ false
+    pub is : e .table ≡ tableOf (after edit ps (rowsOf t))
+
+  pub all-fit : (ps : List Part) (t : Table) (e : Edited) → e ≡ editedAll edit ps t → e .over ≡ false → AllFit ps t e
+  unfolding editedAll
+  all-fit ps t e is fits = go (overAfter edit ps (rowsOf t)) refl is
+    where
+      go : (b : Bool) → overAfter edit ps (rowsOf t) ≡ b → e ≡ cond b (record { over = true; table = t }) (record { over = false; table = tableOf (after edit ps (rowsOf t)) }) → AllFit ps t e
+      go true h f = absurd (true≢false (sym (ap (λ (x : Edited). x .over) f) ∙ fits))
+      go false h f = record { fits = h; is = ap (λ (x : Edited). x .table) f }
+
+  -- rows that are never over are at most 128
+  pub after-short : (ps : List Part) (rows : List Row) → length rows ≤ 128 → overAfter edit ps rows ≡ false → length (after edit ps rows) ≤ 128
+  unfolding after overAfter
+  after-short [] rows le e = le
+  after-short (p ∷ ps) rows le e =
+      ⊎-elim
+      (λ lt. absurd (true≢false (rw (lt-ltb 128 (length (edit p rows)) lt) at e)))
+      (λ ge. after-short ps (edit p rows) ge (rw (le-ltb 128 (length (edit p rows)) ge) at e))
+      (lt-or-le 128 (length (edit p rows)))
+
+module _ (old new : Part) (t : Table) (u : Updatable old new t) where
+  pub update-removes : Editable Takes (removedParts old new) t
+  update-removes =
+      record {
+        runs = moved (old .id) (has (old .from) (old .until)) (u .runs);
+        usage = u .usage;
+        last = moved (old .id) (both old new) (u .runs);
+        clean = u .clean;
+        right = u .right;
+        within = moved-within (old .id) (u .runs) (u .usage) (has (old .from) (old .until)) (u .task) (rw (← (u .of)) (u .draws)) (u .within);
+        steps = removed-steps (old .id) (u .runs) (u .usage) (u .task) (rw (← (u .of)) (u .draws)) (u .within) old new refl (u .same) (u .of) (u .equal ∙ u .of) (u .low) (u .high);
+      }
+
+  pub update-adds : (t' : Table) → overAfter removal (removedParts old new) (rowsOf t) ≡ false → t' ≡ tableOf (after removal (removedParts old new) (rowsOf t)) → Editable Puts (addedParts old new) t'
+  unfolding update-removes
+  update-adds t' fits is =
+      let ps = removedParts old new in
+      let e = update-removes in
+      let short : length (after removal ps (rowsOf t)) ≤ 128 = after-short removal ps (rowsOf t) (omega (arith, u .clean)) fits in
+      rw is
+      (record {
+        runs = moved (old .id) (both old new) (u .runs);
+        usage = u .usage;
+        last = moved (old .id) (has (new .from) (new .until)) (u .runs);
+        clean = clean-of (after removal ps (rowsOf t)) short;
+        right = rw (rows-of (after removal ps (rowsOf t))) (removals-right (u .usage) (e .last) ps (e .runs) (rowsOf t) (e .steps) (e .within) (e .right));
+        within = moved-within (old .id) (u .runs) (u .usage) (both old new) (u .task) (rw (← (u .of)) (u .draws)) (u .within);
+        steps = added-steps (old .id) (u .runs) (u .usage) (u .task) (rw (← (u .of)) (u .draws)) (u .within) old new refl (u .same) (u .of) (u .equal ∙ u .of) (u .low) (u .high);
+      })
+
+-- the three answers
+module _ (old new : Part) (t : Table) where
+  pub update-over-removed : overAfter removal (removedParts old new) (rowsOf t) ≡ true → _≡_ {A = Edited} (record { over = true; table = t }) (updated old new t)
+  unfolding updated
+  update-over-removed e = rw e
+
+  module _ (t' : Table) (fits : overAfter removal (removedParts old new) (rowsOf t) ≡ false) (is : t' ≡ tableOf (after removal (removedParts old new) (rowsOf t))) where
+    same-rows : rowsOf t' ≡ after removal (removedParts old new) (rowsOf t)
+    same-rows = rw is (rows-of (after removal (removedParts old new) (rowsOf t)))
+
+    pub update-over-added : overAfter insertion (addedParts old new) (rowsOf t') ≡ true → _≡_ {A = Edited} (record { over = true; table = t }) (updated old new t)
+    unfolding updated
+    update-over-added e = rw (fits, ← same-rows, e)
+
+    pub update-fits : (e : Edited) → e .over ≡ false → AllFit insertion (addedParts old new) t' e → e ≡ updated old new t
+    unfolding updated
+    update-fits e no-over f = rw (fits, ← same-rows, f .fits) (λ i. record { over = no-over i; table = f .is i })

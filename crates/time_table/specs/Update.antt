@@ -1,0 +1,94 @@
+-- An update applies all removed parts, then all added ones, each list in its order. If after some one part the table would have over 128 rows,
+-- it is over, and the table stays as it was.
+use mathlib.Core.Bool.{Bool, true, false, cond, _||_}
+use mathlib.Core.Path.{_≡_}
+use mathlib.Core.List.{List, [], _∷_}
+use Prim.Native.Nat.{ℕ, _≤_, _<_}
+use lib.Dec.{ltb, eqb}
+use lib.ListN.{length}
+use Rattle.time_table.specs.declared.Row.{Row}
+use Rattle.time_table.specs.declared.Part.{Part}
+use Rattle.time_table.specs.declared.Table.{Table}
+use Rattle.time_table.specs.declared.Edited.{Edited}
+use Rattle.time_table.specs.Rows.{rowsOf, tableOf, Clean}
+use Rattle.time_table.specs.Order.{ticks}
+use Rattle.time_table.specs.Adjustments.{removedParts, addedParts}
+use Rattle.time_table.specs.Insertion.{insertion}
+use Rattle.time_table.specs.Removal.{removal}
+use Rattle.time_table.specs.Meaning.{Runs, has, Right, Within, PartOf, With}
+
+-- the rows after an edit by each of these parts, one after another
+unfoldable pub after : (Part → List Row → List Row) → List Part → List Row → List Row
+after edit [] rows = rows
+after edit (p ∷ ps) rows = after edit ps (edit p rows)
+
+-- whether some one of them leaves over 128 rows
+unfoldable pub overAfter : (Part → List Row → List Row) → List Part → List Row → Bool
+overAfter edit [] rows = false
+overAfter edit (p ∷ ps) rows = ltb 128 (length (edit p rows)) || overAfter edit ps (edit p rows)
+
+-- the table after them, or over and the table as it was
+unfoldable pub editedAll : (Part → List Row → List Row) → List Part → Table → Edited
+editedAll edit ps t =
+    cond (overAfter edit ps (rowsOf t)) (record { over = true; table = t }) (record { over = false; table = tableOf (after edit ps (rowsOf t)) })
+
+-- the rows after an update from the old part to the new one, and whether some one part of it leaves over 128
+abbrev pub updatedRows : Part → Part → List Row → List Row
+updatedRows old new rows = after insertion (addedParts old new) (after removal (removedParts old new) rows)
+
+abbrev pub updateOver : Part → Part → List Row → Bool
+updateOver old new rows =
+    overAfter removal (removedParts old new) rows || overAfter insertion (addedParts old new) (after removal (removedParts old new) rows)
+
+unfoldable pub updated : Part → Part → Table → Edited
+updated old new t =
+    cond (updateOver old new (rowsOf t)) (record { over = true; table = t }) (record { over = false; table = tableOf (updatedRows old new (rowsOf t)) })
+
+-- the same tasks run, but for the task id, which runs where b says
+abbrev pub moved : ℕ → (ℕ → Bool) → Runs → Runs
+moved id b runs i t = cond (eqb id i) (b t) (runs i t)
+
+-- what an insertion does to what runs, and a removal
+abbrev pub Puts : Part → Runs → Runs → Type 0
+Puts p runs next = With p runs next
+
+abbrev pub Takes : Part → Runs → Runs → Type 0
+Takes p runs next = With p next runs
+
+-- one edit, after which R goes on
+pub record Step (E : Part → Runs → Runs → Type 0) (usage : ℕ → ℕ) (runs : Runs) (p : Part) (R : Runs → Type 0) : Type 0 where
+  pub next : Runs
+  pub of : PartOf usage p
+  pub goes : E p runs next
+  pub within : Within next usage
+  pub rest : R next
+
+-- edits by these parts, one after another, lead from `runs` to `last`
+abbrev pub Steps : (Part → Runs → Runs → Type 0) → (ℕ → ℕ) → Runs → List Part → Runs → Type 0
+Steps E usage runs [] last = (i t : ℕ) → runs i t ≡ last i t
+Steps E usage runs (p ∷ ps) last = Step E usage runs p (λ (next : Runs). Steps E usage next ps last)
+
+-- a table that is right, and these edits of it
+pub record Editable (E : Part → Runs → Runs → Type 0) (ps : List Part) (t : Table) : Type 0 where
+  pub runs : Runs
+  pub usage : ℕ → ℕ
+  pub last : Runs
+  pub clean : Clean t
+  pub right : Right runs usage (rowsOf t)
+  pub within : Within runs usage
+  pub steps : Steps E usage runs ps last
+
+-- a table that is right for the old part of a task, of which the new part is another
+pub record Updatable (old new : Part) (t : Table) : Type 0 where
+  pub runs : Runs
+  pub usage : ℕ → ℕ
+  pub clean : Clean t
+  pub right : Right (moved (old .id) (has (old .from) (old .until)) runs) usage (rowsOf t)
+  pub within : Within runs usage
+  pub task : old .id < 32
+  pub draws : 0 < old .usage
+  pub of : old .usage ≡ usage (old .id)
+  pub same : new .id ≡ old .id
+  pub equal : new .usage ≡ old .usage
+  pub low : old .until ≤ ticks
+  pub high : new .until ≤ ticks
