@@ -1,13 +1,14 @@
 -- Edits of a table one after another, part by part: what is over, what is left to do, and that the table stays one that can be edited.
 -- Assumes nothing.
 use mathlib.Core.Path.{_≡_, refl, sym, ap, _∙_}
-use mathlib.Core.Bool.{true, false, true≢false, false≢true}
+use mathlib.Core.Bool.{Bool, true, false, true≢false, false≢true}
 use mathlib.Core.Logic.{⊎-elim}
 use mathlib.Core.List.{List, [], _∷_}
 use Prim.Native.Nat.{ℕ, _+_, _≤_, _<_}
 use native.Mathlib.Numerals.{add-one}
 use native.Mathlib.Omega.{arith}
-use borrow.Author.Tests.{lt-ltb, le-ltb}
+use borrow.Author.Tests.{lt-ltb, le-ltb, ltb-true, ltb-false}
+use lib.Dec.{ltb}
 use lib.ListN.{length, drop, getD, drop-of-length-le}
 use lib.Seq.{drop-cons, getD-take, take-append-seam}
 use Rattle.time_table.specs.declared.Row.{Row}
@@ -16,7 +17,7 @@ use Rattle.time_table.specs.declared.Table.{Table}
 use Rattle.time_table.specs.declared.Edited.{Edited}
 use Rattle.time_table.specs.declared.mandatory_part_adjustments.Parts.{Parts}
 use Rattle.time_table.specs.Rows.{rowsOf, tableOf, Clean}
-use Rattle.time_table.specs.Table.{edited}
+use Rattle.time_table.specs.Table.{verdict, edited}
 use Rattle.time_table.specs.Adjustments.{emptyPart, heldParts, partsIn}
 use Rattle.time_table.specs.Insertion.{insertion, CanInsert}
 use Rattle.time_table.specs.Removal.{removal, CanRemove}
@@ -36,31 +37,40 @@ clean-of l le = held-as (record { is = refl; counts = refl; fits = le }) (sym (r
 pub table-self : (t : Table) → Clean t → tableOf (rowsOf t) ≡ t
 table-self t h = λ i. record { rows = sym (h .is) i; count = sym (h .counts) i }
 
--- what the answer of an edit says
-pub edit-over : (t : Table) (l : List Row) (e : Edited) → e ≡ edited t l → e .over ≡ true → 128 < length l
-unfolding edited
-edit-over t l e is over =
-    ⊎-elim (λ lt. lt)
-    (λ le.
-    let fits : e ≡ record { over = false; table = tableOf l } = rw (le-ltb 128 (length l) le) at is in
-    absurd (false≢true (sym (ap (λ (x : Edited). x .over) fits) ∙ over)))
-    (lt-or-le 128 (length l))
+-- what an answer says
+module _ (b : Bool) (t : Table) (l : List Row) (e : Edited) where
+  pub verdict-over : e ≡ verdict b t l → e .over ≡ true → b ≡ true
+  verdict-over is over = go b is
+    where
+      go : (v : Bool) → e ≡ verdict v t l → v ≡ true
+      go true f = refl
+      go false f = absurd (false≢true (sym (ap (λ (x : Edited). x .over) f) ∙ over))
+
+  pub verdict-fits : e ≡ verdict b t l → e .over ≡ false → b ≡ false
+  verdict-fits is fits = go b is
+    where
+      go : (v : Bool) → e ≡ verdict v t l → v ≡ false
+      go true f = absurd (true≢false (sym (ap (λ (x : Edited). x .over) f) ∙ fits))
+      go false f = refl
+
+  pub verdict-table : e ≡ verdict b t l → b ≡ false → e .table ≡ tableOf l
+  verdict-table is fits =
+      let whole : e ≡ record { over = false; table = tableOf l } = rw fits at is in
+      ap (λ (x : Edited). x .table) whole
 
 pub record Fitting (e : Edited) (l : List Row) : Type 0 where
   pub few : length l ≤ 128
   pub is : e .table ≡ tableOf l
 
+pub edit-over : (t : Table) (l : List Row) (e : Edited) → e ≡ edited t l → e .over ≡ true → 128 < length l
+unfolding edited
+edit-over t l e is over = ltb-true 128 (length l) (verdict-over (ltb 128 (length l)) t l e is over)
+
 pub edit-fits : (t : Table) (l : List Row) (e : Edited) → e ≡ edited t l → e .over ≡ false → Fitting e l
 unfolding edited
 edit-fits t l e is fits =
-    ⊎-elim
-    (λ lt.
-    let full : e ≡ record { over = true; table = t } = rw (lt-ltb 128 (length l) lt) at is in
-    absurd (true≢false (sym (ap (λ (x : Edited). x .over) full) ∙ fits)))
-    (λ le.
-    let whole : e ≡ record { over = false; table = tableOf l } = rw (le-ltb 128 (length l) le) at is in
-    record { few = le; is = ap (λ (x : Edited). x .table) whole })
-    (lt-or-le 128 (length l))
+    let no-over = verdict-fits (ltb 128 (length l)) t l e is fits in
+    record { few = ltb-false 128 (length l) no-over; is = verdict-table (ltb 128 (length l)) t l e is no-over }
 
 module _ (edit : Part → List Row → List Row) where
   pub over-here : (p : Part) (ps : List Part) (rows : List Row) → 128 < length (edit p rows) → overAfter edit (p ∷ ps) rows ≡ true

@@ -1,13 +1,15 @@
 -- The first row that is too high starts at the first instant that is: rows are in order, and where no row is the height is 0.
 -- Assumes nothing.
-use mathlib.Core.Path.{_≡_}
+use mathlib.Core.Path.{_≡_, refl}
 use mathlib.Core.Bool.{true, false, true≢false, false≢true}
 use mathlib.Core.Logic.{⊎-elim}
 use mathlib.Core.List.{List, [], _∷_}
-use Prim.Native.Nat.{ℕ, _+_, _≤_, _<_}
+use Prim.Native.Nat.{ℕ, suc, _+_, _≤_, _<_}
 use native.Mathlib.Omega.{arith}
 use borrow.Author.Tests.{lt-ltb, le-ltb}
+use lib.ListN.{length}
 use Rattle.time_table.specs.declared.Row.{Row}
+use Rattle.time_table.specs.Rows.{rowAt}
 use Rattle.time_table.specs.Order.{Ordered}
 use Rattle.time_table.specs.Overload.{conflictIn}
 use Rattle.time_table.specs.Meaning.{summed, heightAt}
@@ -64,3 +66,19 @@ module _ (capacity hi : ℕ) where
             (λ h. rw (has-above (r .start) (r .end + 1) t h) (omega (arith, w .before t lt)));
       }))
       (lt-or-le capacity (r .height))
+
+-- the row that is shown is one of the rows
+pub record RowIn (rows : List Row) (r : Row) : Type 0 where
+  pub place : ℕ
+  pub one-of : place < length rows
+  pub is : r ≡ rowAt rows place
+
+pub conflict-in : (capacity : ℕ) (rows : List Row) → conflictIn capacity rows .found ≡ true → RowIn rows (conflictIn capacity rows .row)
+unfolding conflictIn
+conflict-in capacity [] e = absurd (false≢true e)
+conflict-in capacity (r ∷ rs) e =
+    ⊎-elim
+    (λ high. rw (lt-ltb capacity (r .height) high) (record { place = 0; one-of = omega arith; is = refl }))
+    (λ low. rw (le-ltb capacity (r .height) low)
+    (let w = conflict-in capacity rs (rw (le-ltb capacity (r .height) low) at e) in record { place = suc (w .place); one-of = omega (arith, w .one-of); is = w .is }))
+    (lt-or-le capacity (r .height))

@@ -1,7 +1,7 @@
 -- An update of a table: the removed parts lead from the old part to what both parts share, and the added ones from there to the new part.
 -- Assumes nothing.
 use mathlib.Core.Path.{_≡_, refl, sym, ap, _∙_}
-use mathlib.Core.Bool.{Bool, true, false, cond, true≢false, false≢true}
+use mathlib.Core.Bool.{Bool, _||_, true, false, cond, true≢false, false≢true}
 use mathlib.Core.Logic.{⊎-elim}
 use mathlib.Core.List.{List, [], _∷_}
 use Prim.Native.Nat.{ℕ, _≤_}
@@ -13,18 +13,18 @@ use Rattle.time_table.specs.declared.Row.{Row}
 use Rattle.time_table.specs.declared.Part.{Part}
 use Rattle.time_table.specs.declared.Table.{Table}
 use Rattle.time_table.specs.declared.Edited.{Edited}
-use Rattle.time_table.specs.Rows.{rowsOf, tableOf}
+use Rattle.time_table.specs.Rows.{rowsOf, tableOf, Clean}
 use Rattle.time_table.specs.Adjustments.{stretch, leftOf, partsOf, partsIn, heldParts, removedParts, addedParts}
 use Rattle.time_table.specs.Insertion.{insertion}
 use Rattle.time_table.specs.Removal.{removal}
-use Rattle.time_table.specs.Meaning.{has}
-use Rattle.time_table.specs.Update.{moved, after, overAfter, editedAll, updated, Puts, Takes, Editable, Updatable}
+use Rattle.time_table.specs.Meaning.{has, Right}
+use Rattle.time_table.specs.Update.{updateOver, updatedRows, moved, after, overAfter, editedAll, updated, Puts, Takes, Editable, Updatable}
 use Rattle.time_table.proofs.Held.{held-as}
 use Rattle.time_table.proofs.Adjusted.{stretch-none, stretch-some}
 use Rattle.time_table.proofs.Left.{left}
 use Rattle.time_table.proofs.Steps.{removals-right}
-use Rattle.time_table.proofs.AdjustedRight.{both, removed-steps, added-steps, moved-within}
-use Rattle.time_table.proofs.Edits.{rows-of, clean-of}
+use Rattle.time_table.proofs.AdjustedRight.{both, removed-steps, added-steps, moved-within, adjusted-right}
+use Rattle.time_table.proofs.Edits.{rows-of, clean-of, verdict-over, verdict-fits, verdict-table}
 use Rattle.time_table.proofs.Sums.{lt-or-le}
 
 -- an adjustment has two parts at most on each side
@@ -46,11 +46,7 @@ left-held p q = held-as (record { is = refl; counts = refl; fits = left-short p 
 module _ (edit : Part → List Row → List Row) where
   pub all-over : (ps : List Part) (t : Table) (e : Edited) → e ≡ editedAll edit ps t → e .over ≡ true → overAfter edit ps (rowsOf t) ≡ true
   unfolding editedAll
-  all-over ps t e is over = go (overAfter edit ps (rowsOf t)) is
-    where
-      go : (b : Bool) → e ≡ cond b (record { over = true; table = t }) (record { over = false; table = tableOf (after edit ps (rowsOf t)) }) → b ≡ true
-      go true f = refl
-      go false f = absurd (false≢true (sym (ap (λ (x : Edited). x .over) f) ∙ over))
+  all-over ps t e is over = verdict-over (overAfter edit ps (rowsOf t)) t (after edit ps (rowsOf t)) e is over
 
   pub record AllFit (ps : List Part) (t : Table) (e : Edited) : Type 0 where
     pub fits : overAfter edit ps (rowsOf t) ≡ false
@@ -58,11 +54,10 @@ module _ (edit : Part → List Row → List Row) where
 
   pub all-fit : (ps : List Part) (t : Table) (e : Edited) → e ≡ editedAll edit ps t → e .over ≡ false → AllFit ps t e
   unfolding editedAll
-  all-fit ps t e is fits = go (overAfter edit ps (rowsOf t)) refl is
-    where
-      go : (b : Bool) → overAfter edit ps (rowsOf t) ≡ b → e ≡ cond b (record { over = true; table = t }) (record { over = false; table = tableOf (after edit ps (rowsOf t)) }) → AllFit ps t e
-      go true h f = absurd (true≢false (sym (ap (λ (x : Edited). x .over) f) ∙ fits))
-      go false h f = record { fits = h; is = ap (λ (x : Edited). x .table) f }
+  all-fit ps t e is fits =
+      let b = overAfter edit ps (rowsOf t) in
+      let no-over = verdict-fits b t (after edit ps (rowsOf t)) e is fits in
+      record { fits = no-over; is = verdict-table b t (after edit ps (rowsOf t)) e is no-over }
 
   -- rows that are never over are at most 128
   pub after-short : (ps : List Part) (rows : List Row) → length rows ≤ 128 → overAfter edit ps rows ≡ false → length (after edit ps rows) ≤ 128
@@ -121,3 +116,35 @@ module _ (old new : Part) (t : Table) where
     pub update-fits : (e : Edited) → e .over ≡ false → AllFit insertion (addedParts old new) t' e → e ≡ updated old new t
     unfolding updated
     update-fits e no-over f = rw (fits, ← same-rows, f .fits) (λ i. record { over = no-over i; table = f .is i })
+
+-- what the answer of an update says
+neither : (a b : Bool) → (a || b) ≡ false → (a ≡ false) × (b ≡ false)
+neither true b e = absurd (true≢false e)
+neither false b e = (refl, e)
+
+module _ (old new : Part) (t : Table) where
+  pub updated-over : (e : Edited) → e ≡ updated old new t → e .over ≡ true → updateOver old new (rowsOf t) ≡ true
+  unfolding updated
+  updated-over e is over = verdict-over (updateOver old new (rowsOf t)) t (updatedRows old new (rowsOf t)) e is over
+
+  -- it fits, and each of its parts did
+  pub record UpdateFits (e : Edited) : Type 0 where
+    pub fits : updateOver old new (rowsOf t) ≡ false
+    pub is : e .table ≡ tableOf (updatedRows old new (rowsOf t))
+    pub few : length (updatedRows old new (rowsOf t)) ≤ 128
+
+  pub updated-fits : (e : Edited) → Clean t → e ≡ updated old new t → e .over ≡ false → UpdateFits e
+  unfolding updated
+  updated-fits e clean is fits =
+      let no-over = verdict-fits (updateOver old new (rowsOf t)) t (updatedRows old new (rowsOf t)) e is fits in
+      let both = neither (overAfter removal (removedParts old new) (rowsOf t)) _ no-over in
+      record {
+        fits = no-over;
+        is = verdict-table (updateOver old new (rowsOf t)) t (updatedRows old new (rowsOf t)) e is no-over;
+        few = after-short insertion (addedParts old new) _ (after-short removal (removedParts old new) (rowsOf t) (omega (arith, clean)) (both .0)) (both .1);
+      }
+
+  -- and the table is then right for the new part
+  pub updated-right : (u : Updatable old new t) → Right (moved (old .id) (has (new .from) (new .until)) (u .runs)) (u .usage) (updatedRows old new (rowsOf t))
+  updated-right u =
+      adjusted-right (old .id) (u .runs) (u .usage) (u .task) (rw (← (u .of)) (u .draws)) (u .within) old new refl (u .same) (u .of) (u .equal ∙ u .of) (u .low) (u .high) (rowsOf t) (u .right)

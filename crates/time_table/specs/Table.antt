@@ -1,5 +1,5 @@
 -- A table after an edit, and what the Rust has of its vector.
-use mathlib.Core.Bool.{true, false, cond}
+use mathlib.Core.Bool.{Bool, true, false, cond}
 use mathlib.Core.Path.{_≡_}
 use mathlib.Core.List.{List, _++_}
 use Prim.Native.Nat.{ℕ, _+_, _<_}
@@ -12,9 +12,13 @@ use Rattle.time_table.specs.declared.pieces.Pieces.{Pieces}
 use Rattle.time_table.specs.Held.{Held}
 use Rattle.time_table.specs.Rows.{emptyRow, tableOf}
 
--- the answer of an edit of the table t that comes to the rows l: over, with t as it was, where they are more than 128
+-- the answer of an edit of the table t that comes to the rows l: t as it was where it is over, and else the table of the rows
+abbrev pub verdict : Bool → Table → List Row → Edited
+verdict over t l = cond over (record { over = true; table = t }) (record { over = false; table = tableOf l })
+
+-- it is over where they are more than 128
 unfoldable pub edited : Table → List Row → Edited
-edited t l = cond (ltb 128 (length l)) (record { over = true; table = t }) (record { over = false; table = tableOf l })
+edited t l = verdict (ltb 128 (length l)) t l
 
 -- a list with the rows from `first` up to but without `past` replaced
 abbrev pub spliced : List Row → ℕ → ℕ → List Row → List Row

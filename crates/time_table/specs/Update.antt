@@ -12,6 +12,7 @@ use Rattle.time_table.specs.declared.Table.{Table}
 use Rattle.time_table.specs.declared.Edited.{Edited}
 use Rattle.time_table.specs.Rows.{rowsOf, tableOf, Clean}
 use Rattle.time_table.specs.Order.{ticks}
+use Rattle.time_table.specs.Table.{verdict}
 use Rattle.time_table.specs.Adjustments.{removedParts, addedParts}
 use Rattle.time_table.specs.Insertion.{insertion}
 use Rattle.time_table.specs.Removal.{removal}
@@ -29,8 +30,7 @@ overAfter edit (p ∷ ps) rows = ltb 128 (length (edit p rows)) || overAfter edi
 
 -- the table after them, or over and the table as it was
 unfoldable pub editedAll : (Part → List Row → List Row) → List Part → Table → Edited
-editedAll edit ps t =
-    cond (overAfter edit ps (rowsOf t)) (record { over = true; table = t }) (record { over = false; table = tableOf (after edit ps (rowsOf t)) })
+editedAll edit ps t = verdict (overAfter edit ps (rowsOf t)) t (after edit ps (rowsOf t))
 
 -- the rows after an update from the old part to the new one, and whether some one part of it leaves over 128
 abbrev pub updatedRows : Part → Part → List Row → List Row
@@ -41,8 +41,7 @@ updateOver old new rows =
     overAfter removal (removedParts old new) rows || overAfter insertion (addedParts old new) (after removal (removedParts old new) rows)
 
 unfoldable pub updated : Part → Part → Table → Edited
-updated old new t =
-    cond (updateOver old new (rowsOf t)) (record { over = true; table = t }) (record { over = false; table = tableOf (updatedRows old new (rowsOf t)) })
+updated old new t = verdict (updateOver old new (rowsOf t)) t (updatedRows old new (rowsOf t))
 
 -- the same tasks run, but for the task id, which runs where b says
 abbrev pub moved : ℕ → (ℕ → Bool) → Runs → Runs
