@@ -1,0 +1,187 @@
+-- Demand 3 over every history: what is heard of the accepted calls agrees with the plan, so each answer is right for it.
+-- Assumes nothing.
+use mathlib.Core.Path.{_≡_, refl, sym, ap, _∙_}
+use mathlib.Core.Bool.{Bool, true, false, true≢false}
+use mathlib.Core.Logic.{_⊎_, inl, inr, ⊎-elim}
+use mathlib.Core.List.{List, [], _∷_, map}
+use Prim.Native.Nat.{_<_}
+use native.Mathlib.Omega.{arith}
+use lib.IntN.{ℤ}
+use lib.ListN.{length, set, length-map}
+use Rattle.time_table.specs.declared.Row.{Row}
+use Rattle.time_table.specs.Rows.{rowsOf, tableOf}
+use Rattle.time_table.specs.Meaning.{Right}
+use Rattle.time_table.specs.Update.{updateOver, updatedRows, updated}
+use Rattle.time_table.specs.declared.Part.{Part}
+use Rattle.time_table.specs.Table.{verdict}
+use Rattle.time_table.proofs.Edits.{rows-of}
+use Rattle.time_table.proofs.Updates.{UpdateFits, updated-fits}
+use Rattle.sweep.specs.declared.Task.{Task}
+use Rattle.sweep.specs.Tasks.{tasksOf, tasksWith, taskAt, usageOf, partOf, runs}
+use Rattle.sweep.specs.Created.{created}
+use Rattle.planner.specs.declared.Jobs.{Jobs}
+use Rattle.planner.specs.declared.Refusal.{Refusal}
+use Rattle.planner.specs.declared.Checked.{Checked}
+use Rattle.planner.specs.declared.Plan.{Plan}
+use Rattle.planner.specs.declared.Updated.{Updated}
+use Rattle.planner.specs.Instants.{tick, amount}
+use Rattle.planner.specs.declared.Refusal.the-variants.{UnknownTask, TooManyRows}
+use Rattle.planner.specs.Checks.{boundsChecked}
+use Rattle.planner.specs.Updates.{known, bounded, acceptedUpdate}
+use Rattle.planner.specs.Loads.{taskOf, jobsOf, loadChecked, acceptedLoad}
+use Rattle.planner.specs.Records.{recordOf}
+use Rattle.planner.specs.Sound.{SoundTasks}
+use Rattle.planner.specs.Answers.{freshPlan, refusedUpdate}
+use Rattle.planner.specs.History.{Call, load, update, withoutPlaces, outcome, Heard, nothing, accepted, hear, lastHeard, planAfter, heardAfter}
+use Rattle.planner.specs.Demand.{Demanded, Answered}
+use Rattle.planner.proofs.Tests.{by-test}
+use Rattle.planner.proofs.Loading.{tasks-of, load-by, load-accepted, loaded-sound}
+use Rattle.planner.proofs.Known.{known-true}
+use Rattle.planner.proofs.Updating.{new-sound, new-live, accepted-live, accepted-stale, live-over-full, live-with-room, update-unknown, update-known}
+use Rattle.planner.proofs.Accepted.{capacity-accepted, bounds-accepted}
+use Rattle.planner.proofs.HeardJobs.{kept-tasks, kept-numbers, moved-tasks, moved-numbers}
+use Rattle.planner.proofs.SignedDraws.{AllNumbers}
+use Rattle.planner.proofs.SignedRows.{demanded-signed}
+use Rattle.planner.proofs.Agreeing.{Agrees, fresh-agrees, Good, live-good, swept-good}
+
+-- a call is refused and leaves the plan as it was, or is accepted and good
+abbrev Led : Heard → Plan → Call → Type 0
+Led h plan c = ((accepted (outcome plan c .answer) ≡ false) × (outcome plan c .plan ≡ plan)) ⊎ Good (hear h c) (outcome plan c)
+
+-- where an outcome is known
+refused-led : (h : Heard) (plan : Plan) (c : Call) (why : Refusal) → outcome plan c ≡ refusedUpdate plan why → Led h plan c
+refused-led h plan c why e = inl (ap (λ (o : Updated). accepted (o .answer)) e, ap (λ (o : Updated). o .plan) e)
+
+good-led : (h : Heard) (plan : Plan) (c : Call) (o : Updated) → outcome plan c ≡ o → Good (hear h c) o → Led h plan c
+good-led h plan c o e g = inr (rw e g)
+
+load-led : (h : Heard) (plan : Plan) (jobs : Jobs) (capacity : ℤ) → Led h plan (load jobs capacity)
+unfolding acceptedLoad
+load-led h plan jobs capacity = go (loadChecked jobs capacity) refl
+  where
+    go : (r : Checked) → loadChecked jobs capacity ≡ r → Led h plan (load jobs capacity)
+    go (Checked.Refused why) e = refused-led h plan (load jobs capacity) why (ap withoutPlaces (load-by plan jobs capacity (Checked.Refused why) e))
+    go Checked.Accepted e =
+        let ok = load-accepted jobs capacity e in
+        let js = jobsOf jobs in
+        let k = capacity-accepted (ok .1) in
+        good-led h plan (load jobs capacity) _ (ap withoutPlaces (load-by plan jobs capacity Checked.Accepted e))
+        (swept-good (hear h (load jobs capacity)) (created (map taskOf js)) (loaded-sound jobs (ok .0)) (kept-tasks js) (kept-numbers js (ok .0 .checked))
+        (amount capacity) (k .top) refl)
+
+module _ (h : Heard) (plan : Plan) (a : Agrees h plan) (id earliest latest : ℤ) where
+  abbrev call : Call
+  call = update id earliest latest
+
+  -- the task is known and the bounds are accepted
+  module _ (k : known (plan .tasks .count) id ≡ true) (ok : boundsChecked earliest latest ≡ Checked.Accepted) where
+    lt : amount id < plan .tasks .count
+    lt = known-true (plan .tasks .count) id k .1
+
+    abbrev ts : List Task
+    ts = set (tasksOf (plan .tasks)) (amount id) (bounded (taskAt (tasksOf (plan .tasks)) (amount id)) (tick earliest) (tick latest))
+
+    inside : amount id < length (h .jobs)
+    inside = omega (arith, lt, a .sound .tasks .held .counts, ap length (a .tasks), length-map (h .jobs) taskOf)
+
+    ts-sound : SoundTasks (tasksWith ts)
+    ts-sound = new-sound plan (a .sound) (amount id) (tick earliest) (tick latest) lt (bounds-accepted ok .order) (bounds-accepted ok .top)
+
+    ts-heard : ts ≡ map taskOf (hear h call .jobs)
+    ts-heard =
+        ap (λ (l : List Task). set l (amount id) (bounded (taskAt l (amount id)) (tick earliest) (tick latest))) (a .tasks)
+        ∙ moved-tasks (h .jobs) (a .numbers) (amount id) inside earliest latest ok
+
+    numbers : AllNumbers (hear h call .jobs)
+    numbers = moved-numbers (h .jobs) (a .numbers) (amount id) inside earliest latest ok
+
+    is-accepted : outcome plan call ≡ acceptedUpdate plan (amount id) (tick earliest) (tick latest)
+    is-accepted = update-known plan id earliest latest Checked.Accepted k ok
+
+    stale-led : plan .live ≡ false → Led h plan call
+    stale-led stale =
+        good-led h plan call _ (is-accepted ∙ accepted-stale plan (amount id) (tick earliest) (tick latest) stale)
+        (swept-good (hear h call) ts ts-sound ts-heard numbers (plan .capacity) (a .sound .capacity) (a .capacity))
+
+    abbrev old : Part
+    old = partOf (amount id) (taskAt (tasksOf (plan .tasks)) (amount id))
+
+    abbrev new : Part
+    new = partOf (amount id) (bounded (taskAt (tasksOf (plan .tasks)) (amount id)) (tick earliest) (tick latest))
+
+    abbrev rows : List Row
+    rows = updatedRows old new (rowsOf (plan .table))
+
+    -- the edit of a live table that has room
+    module _ (live : plan .live ≡ true) (room : updateOver old new (rowsOf (plan .table)) ≡ false) where
+      fits : UpdateFits old new (plan .table) (record { over = false; table = tableOf rows })
+      unfolding updated
+      fits =
+          updated-fits old new (plan .table) (record { over = false; table = tableOf rows }) (a .sound .live live .clean)
+          (sym (ap (λ (b : Bool). verdict b (plan .table) rows) room)) refl
+
+      right : Right (runs ts) (usageOf ts) rows
+      right =
+          rw (rows-of rows, tasks-of ts) at
+          (new-live plan (a .sound) (amount id) (tick earliest) (tick latest) lt (bounds-accepted ok .order) (bounds-accepted ok .top) live _ fits .right)
+
+      room-led : Led h plan call
+      room-led =
+          good-led h plan call _
+          (is-accepted ∙ accepted-live plan (amount id) (tick earliest) (tick latest) live ∙ live-with-room plan (amount id) (tick earliest) (tick latest) room)
+          (live-good (hear h call) ts ts-sound ts-heard numbers (plan .capacity) (a .sound .capacity) (a .capacity) rows right (fits .few))
+
+    live-led : plan .live ≡ true → Led h plan call
+    live-led live =
+        ⊎-elim
+        (λ over. refused-led h plan call TooManyRows
+        (is-accepted ∙ accepted-live plan (amount id) (tick earliest) (tick latest) live ∙ live-over-full plan (amount id) (tick earliest) (tick latest) over))
+        (λ room. room-led live room)
+        (by-test (updateOver old new (rowsOf (plan .table))))
+
+  update-led : Led h plan call
+  update-led =
+      ⊎-elim
+      (λ k. go k (boundsChecked earliest latest) refl)
+      (λ no-task. refused-led h plan call UnknownTask (update-unknown plan id earliest latest no-task))
+      (by-test (known (plan .tasks .count) id))
+    where
+      go : known (plan .tasks .count) id ≡ true → (r : Checked) → boundsChecked earliest latest ≡ r → Led h plan call
+      go k (Checked.Refused why) e = refused-led h plan call why (update-known plan id earliest latest (Checked.Refused why) k e)
+      go k Checked.Accepted e = ⊎-elim (λ live. live-led k e live) (λ stale. stale-led k e stale) (by-test (plan .live))
+
+led : (h : Heard) (plan : Plan) → Agrees h plan → (c : Call) → Led h plan c
+led h plan a (load jobs capacity) = load-led h plan jobs capacity
+led h plan a (update id earliest latest) = update-led h plan a id earliest latest
+
+-- what is heard keeps agreeing with the plan
+step-agrees : (h : Heard) (plan : Plan) → Agrees h plan → (c : Call) → Agrees (lastHeard h c (outcome plan c .answer)) (outcome plan c .plan)
+step-agrees h plan a c =
+    ⊎-elim
+    (λ refused. rw (refused .0, refused .1) a)
+    (λ good. rw (good .taken) (good .agrees))
+    (led h plan a c)
+
+calls-agree : (h : Heard) (plan : Plan) → Agrees h plan → (calls : List Call) → Agrees (heardAfter plan h calls) (planAfter plan calls)
+calls-agree h plan a [] = a
+calls-agree h plan a (c ∷ cs) = calls-agree (lastHeard h c (outcome plan c .answer)) (outcome plan c .plan) (step-agrees h plan a c) cs
+
+-- after every history of calls what is heard agrees with the plan, and the plan is sound
+pub history-agrees : (calls : List Call) → Agrees (heardAfter freshPlan nothing calls) (planAfter freshPlan calls)
+history-agrees calls = calls-agree nothing freshPlan fresh-agrees calls
+
+-- demand 3: after every history, an accepted call is answered as demanded, by the last accepted bounds
+pub demand-three : (calls : List Call) (c : Call) → accepted (outcome (planAfter freshPlan calls) c .answer) ≡ true
+    → Answered (hear (heardAfter freshPlan nothing calls) c) (outcome (planAfter freshPlan calls) c)
+demand-three calls c taken =
+    ⊎-elim
+    (λ refused. absurd (true≢false (sym taken ∙ refused .0)))
+    (λ good. good .answered)
+    (led (heardAfter freshPlan nothing calls) (planAfter freshPlan calls) (history-agrees calls) c)
+
+-- and while the table is live its rows stay as demanded, whatever is refused in between
+pub live-demanded : (calls : List Call) → planAfter freshPlan calls .live ≡ true
+    → Demanded (heardAfter freshPlan nothing calls .jobs) (map recordOf (rowsOf (planAfter freshPlan calls .table)))
+live-demanded calls live =
+    let a = history-agrees calls in
+    demanded-signed (heardAfter freshPlan nothing calls) (planAfter freshPlan calls .tasks) (a .sound .tasks) (a .tasks) (a .numbers) _ (a .sound .live live .right)

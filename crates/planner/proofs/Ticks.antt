@@ -1,0 +1,76 @@
+-- Ticks and instants answer to each other: an instant is its tick less a constant, so orders and sums carry across.
+-- Assumes nothing.
+use mathlib.Core.Path.{_≡_, refl, sym, ap, _∙_}
+use mathlib.Core.Bool.{true, not}
+use mathlib.Core.Logic.{⊎-elim}
+use Prim.Native.Nat.{ℕ, suc, _+_, _-_, _≤_, _<_}
+use native.Mathlib.Omega.{arith}
+use borrow.Author.Tests.{leb-true, lt-ltb, le-ltb, le-leb, lt-leb}
+use lib.Dec.{leb, ltb}
+use lib.IntN.{ℤ, pos, negsuc, negℤ, natAbs, _+ℤ_, _-ℤ_, +ℤ-assoc, +ℤ-comm, +ℤ-negℤ-cancel, -ℤ-+ℤ-cancel}
+use lib.Signed.{leZ, ltZ, mag}
+use Rattle.time_table.proofs.Sums.{lt-or-le}
+use Rattle.planner.specs.Ranges.{bounds}
+use Rattle.planner.specs.Instants.{instant, tick}
+use Rattle.planner.proofs.Tests.{same-test, ltb-not, ltZ-not}
+
+-- there and back
+pub tick-instant : (t : ℕ) → tick (instant t) ≡ t
+unfolding tick instant
+tick-instant t = ap natAbs (-ℤ-+ℤ-cancel (pos t) (pos 1000000000))
+
+pub instant-injective : (a b : ℕ) → instant a ≡ instant b → a ≡ b
+instant-injective a b e = sym (tick-instant a) ∙ ap tick e ∙ tick-instant b
+
+pub tick-sum : (z : ℤ) → leZ (bounds .lo) z ≡ true → z +ℤ pos 1000000000 ≡ pos (tick z)
+unfolding tick
+tick-sum (pos n) low = refl
+tick-sum (negsuc n) low =
+    let near : n ≤ 999999999 = leb-true n 999999999 low in
+    simp (le-ltb 1000000000 (suc n) (omega arith))
+
+pub instant-tick : (z : ℤ) → leZ (bounds .lo) z ≡ true → instant (tick z) ≡ z
+unfolding instant
+instant-tick z low = ap (λ (x : ℤ). x -ℤ pos 1000000000) (sym (tick-sum z low)) ∙ +ℤ-negℤ-cancel z (pos 1000000000)
+
+-- sums
+pub instant-sum : (t d : ℕ) → instant (t + d) ≡ instant t +ℤ pos d
+unfolding instant
+instant-sum t d =
+    +ℤ-assoc (pos t) (pos d) (negℤ (pos 1000000000))
+    ∙ ap (λ (x : ℤ). pos t +ℤ x) (+ℤ-comm (pos d) (negℤ (pos 1000000000)))
+    ∙ sym (+ℤ-assoc (pos t) (negℤ (pos 1000000000)) (pos d))
+
+-- an instant by its sign
+pub instant-low : (t : ℕ) → t < 1000000000 → instant t ≡ negsuc (1000000000 - suc t)
+unfolding instant
+instant-low t h = simp (lt-ltb t 1000000000 h)
+
+pub instant-high : (t : ℕ) → 1000000000 ≤ t → instant t ≡ pos (t - 1000000000)
+unfolding instant
+instant-high t h = simp (le-ltb t 1000000000 h)
+
+-- orders
+pub instant-order : (a b : ℕ) → leZ (instant a) (instant b) ≡ leb a b
+instant-order a b =
+    ⊎-elim
+    (λ p. ⊎-elim
+    (λ q. rw (instant-low a p, instant-low b q) (same-test (1000000000 - suc b) (1000000000 - suc a) a b (λ h. omega arith) (λ h. omega arith)))
+    (λ q. rw (instant-low a p, instant-high b q) (sym (le-leb a b (omega arith))))
+    (lt-or-le b 1000000000))
+    (λ p. ⊎-elim
+    (λ q. rw (instant-high a p, instant-low b q) (sym (lt-leb a b (omega arith))))
+    (λ q. rw (instant-high a p, instant-high b q) (same-test (a - 1000000000) (b - 1000000000) a b (λ h. omega arith) (λ h. omega arith)))
+    (lt-or-le b 1000000000))
+    (lt-or-le a 1000000000)
+
+pub instant-strict : (a b : ℕ) → ltZ (instant a) (instant b) ≡ ltb a b
+instant-strict a b = ltZ-not (instant a) (instant b) ∙ ap not (instant-order b a) ∙ sym (ltb-not a b)
+
+pub tick-order : (a b : ℤ) → leZ (bounds .lo) a ≡ true → leZ (bounds .lo) b ≡ true → leb (tick a) (tick b) ≡ leZ a b
+tick-order a b p q = sym (instant-order (tick a) (tick b)) ∙ (λ i. leZ (instant-tick a p i) (instant-tick b q i))
+
+-- the instants that a plan can touch are small
+pub instant-small : (t : ℕ) → t < 3000000000 → mag (instant t) < 2000000000
+instant-small t h =
+    ⊎-elim (λ p. rw (instant-low t p) (omega arith)) (λ p. rw (instant-high t p) (omega arith)) (lt-or-le t 1000000000)

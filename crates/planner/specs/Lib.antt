@@ -1,0 +1,13 @@
+pub mod Refusals
+pub mod Ranges
+pub mod Instants
+pub mod Checks
+pub mod Given
+pub mod Records
+pub mod Sound
+pub mod Answers
+pub mod Loads
+pub mod Updates
+pub mod Questions
+pub mod History
+pub mod Demand

@@ -1,0 +1,113 @@
+// The pass planner: jobs with signed numbers, limits, numbered refusals, and a plan that is loaded,
+// updated and asked. What a caller hands in and gets back is signed; inside all instants are ticks.
+mod border;
+pub mod load;
+pub mod questions;
+mod records;
+pub mod update;
+
+use sweep::Tasks;
+use sweep::util::Placed;
+use time_table::Table;
+
+// A plan: the capacity, the tasks by id, and their time-table, which is live or stale. A stale table
+// has no rows.
+pub struct Plan {
+    pub(crate) capacity: u32,
+    pub(crate) tasks: Tasks,
+    pub(crate) live: bool,
+    pub(crate) table: Table,
+}
+
+impl Plan {
+    // At most so many jobs in a load.
+    pub const JOBS: usize = 32;
+    // Start bounds are from -BOUND to BOUND.
+    pub const BOUND: i32 = 1000000000;
+    // Durations, usages and capacities are from 0 to these.
+    pub const DURATION: i32 = 1000000000;
+
+    pub const USAGE: i32 = 1000000;
+
+    pub const CAPACITY: i32 = 1000000000;
+}
+
+// A job as a caller hands it in, checked at the load.
+pub struct Job {
+    pub earliest: i32,
+    pub latest: i32,
+    pub duration: i32,
+    pub usage: i32,
+}
+
+// The jobs of a load, in `list` up to `count`.
+pub struct Jobs {
+    pub list: [Job; 32],
+    pub count: usize,
+}
+
+// A row as a caller gets it: its instants from `start` to `end`, both in it, its height and its ids.
+pub struct RowRecord {
+    pub start: i32,
+    pub end: i32,
+    pub height: u32,
+    pub ids: [u8; 32],
+    pub count: usize,
+}
+
+// Why a call is refused, in the order of document 01's numbers, from 1 on.
+pub enum Refusal {
+    TooManyJobs,
+    CapacityOutOfRange,
+    BoundOutOfRange,
+    BoundsCrossed,
+    DurationOutOfRange,
+    UsageOutOfRange,
+    UnknownTask,
+    TooManyRows,
+    Stale,
+    ShortSlice,
+    Unreadable,
+}
+
+// What a check finds.
+pub enum Checked {
+    Accepted,
+    Refused(Refusal),
+}
+
+// The answer of a load or an update.
+pub enum Answer {
+    Fits,
+    Overloaded,
+    Refused(Refusal),
+}
+
+// What an update leads to: the answer, the row that is too high, if one is, and the plan afterwards.
+pub struct Updated {
+    pub answer: Answer,
+    pub row: RowRecord,
+    pub plan: Plan,
+}
+
+// What a load leads to: the same, and for each input job its id or that it was dropped.
+pub struct Loaded {
+    pub answer: Answer,
+    pub row: RowRecord,
+    pub placed: [Placed; 32],
+    pub plan: Plan,
+}
+
+// What a question for the first fit finds.
+pub enum FirstFit {
+    Start(i32),
+    Nowhere,
+    Refused(Refusal),
+}
+
+// The rows of a live table, in `rows` up to `count`; or a refusal and no rows.
+pub struct Rows {
+    pub answer: Checked,
+    pub rows: [RowRecord; 128],
+    pub count: usize,
+}
