@@ -20,3 +20,10 @@ pub mod SignedRows
 pub mod HeardJobs
 pub mod Agreeing
 pub mod Histories
+pub mod OverLimit
+pub mod Ids
+pub mod Refused
+pub mod Numbers
+pub mod Unique
+pub mod FitInstants
+pub mod Corners

@@ -11,3 +11,7 @@ pub mod Updates
 pub mod Questions
 pub mod History
 pub mod Demand
+pub mod Refused
+pub mod Unique
+pub mod SignedFit
+pub mod Corners
