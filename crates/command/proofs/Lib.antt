@@ -1,0 +1,14 @@
+pub mod Writing
+pub mod Digits
+pub mod Fields
+pub mod Signs
+pub mod Lengths
+pub mod Reading
+pub mod Texts
+pub mod Letters
+pub mod Values
+pub mod Filling
+pub mod Outcomes
+pub mod ShownRows
+pub mod Serving
+pub mod Transcript

@@ -1,0 +1,75 @@
+-- `serve_all` is safe and ends: each turn takes a byte at least, and the state stays ready.
+-- Assumes nothing.
+use mathlib.Core.Path.{_≡_, refl, sym, _∙_}
+use Prim.Native.Nat.{_-_}
+use lib.ListN.{length}
+use lib.Seq.{length-take-le}
+use denote.Ref.{now}
+use Rattle.command.specs.Lines.{ReadyState}
+use Rattle.command.proofs.Serving.{served-further}
+use borrow.Author.Needs.{needs}
+use native.Mathlib.Omega.{arith}
+use Rattle.pass_planner.proofs.serve_all.Statement.{statement}
+use Rattle.pass_planner.proofs.serve_all.Tie as tie
+
+abbrev Inv-loop : tie.InvT-loop
+Inv-loop chunk out₀ state₀ at₀ out state at = ReadyState state × (length out ≡ length out₀)
+
+abbrev μ-loop : tie.MeasureT-loop
+μ-loop chunk out₀ state₀ at₀ out state at = length chunk - at
+
+loop-holds : tie.Need-loop-holds Inv-loop μ-loop
+loop-holds c = (c .before .before .pre .0, refl)
+
+serve-requires : tie.Need-serve-requires Inv-loop μ-loop
+serve-requires c κs =
+    let l = c .before .before in
+    (l .loop .inv .0, omega (arith, l .before .before .before .pre .1, l .loop .inv .1))
+
+slice-reshare-prefix-write-all : tie.Need-slice-reshare-prefix-write-all Inv-loop μ-loop
+slice-reshare-prefix-write-all c =
+    let p = c .before .before in
+    omega (arith, p .serve .ensures .0 .fits, p .serve .kept .1 .1 .1 .0)
+
+slice-aggregate-write-all : tie.Need-slice-aggregate-write-all Inv-loop μ-loop
+slice-aggregate-write-all c =
+    let p = c .before .before .before in
+    sym (length-take-le (p .serve .result .len) (p .serve .last .1 .1 .1 .0) (omega (arith, p .serve .ensures .0 .fits, p .serve .kept .1 .1 .1 .0)))
+
+write-all-requires : tie.Need-write-all-requires Inv-loop μ-loop
+write-all-requires c κs = search needs
+
+loop-less : tie.Need-loop-less Inv-loop μ-loop
+loop-less c =
+    let p = c .before .before .before .before .before in
+    let l = p .before .before .before in
+    let lt = p .before .before .loop-test .taken in
+    omega (arith, lt, p .serve .ensures .0 .next, served-further (l .loop .state) (l .loop .at) (now (l .before .before .before .args .chunk)) lt)
+
+loop-again : tie.Need-loop-again Inv-loop μ-loop
+loop-again c =
+    let p = c .before .before .before .before .before in
+    let l = p .before .before .before in
+    (p .serve .ensures .1, p .serve .kept .1 .1 .1 .0 ∙ l .loop .inv .1)
+
+same-length : tie.Need-same-length Inv-loop μ-loop
+same-length c = c .before .loop .inv .1
+
+returns : tie.Need-returns Inv-loop μ-loop
+returns c = c .before .loop .inv .0
+
+pub serve-all-spec : {M : Type 1} → statement M
+serve-all-spec =
+    tie.close
+    (tie.spec
+    Inv-loop
+    μ-loop
+    loop-holds
+    serve-requires
+    slice-reshare-prefix-write-all
+    slice-aggregate-write-all
+    write-all-requires
+    loop-less
+    loop-again
+    same-length
+    returns)
