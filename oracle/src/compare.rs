@@ -19,7 +19,7 @@ use crate::shapes::Shape;
 /// How many sessions one run of the other program gets.
 const BATCH: u64 = 100;
 /// How long one run of the other program may take.
-const PATIENCE: Duration = Duration::from_secs(10);
+const PATIENCE: Duration = Duration::from_secs(300);
 /// After so many sessions with a difference the comparison ends.
 const ENOUGH: usize = 20;
 

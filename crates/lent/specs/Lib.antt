@@ -1,0 +1,3 @@
+pub mod Changes
+pub mod Kept
+pub mod Copies

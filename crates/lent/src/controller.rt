@@ -1,0 +1,73 @@
+// A controller that keeps one plan and lends it to be changed.
+ghost use mathlib.Core.Path.{_≡_};
+ghost use Rattle.planner.specs.Sound.{Sound};
+ghost use Rattle.lent.specs.Kept.{freshController, told, begun, stepped};
+use crate::Changed;
+use crate::Placing;
+use crate::in_place::load_in_place;
+use crate::in_place::update_in_place;
+use planner::Answer;
+use planner::Jobs;
+use planner::Plan;
+use planner::RowRecord;
+
+// A controller: its plan, and what the last change of it answered.
+pub struct Controller {
+    pub plan: Plan,
+    pub last: Changed,
+}
+
+impl Controller {
+    // A controller of a plan without tasks.
+    pub fn fresh() -> Controller
+        ensures { λ r. ⌜ r ≡ freshController ⌝ }
+        ensures { λ r. ⌜ Sound (r .plan) ⌝ }
+    {
+        let row = RowRecord {
+            start: 0,
+            end: 0,
+            height: 0,
+            ids: [0u8; 32],
+            count: 0,
+        };
+        Controller {
+            plan: Plan::fresh(),
+            last: Changed {
+                answer: Answer::Fits,
+                row,
+            },
+        }
+    }
+}
+
+// Of what a load answers, what a controller keeps.
+fn answer_of(placing: Placing) -> Changed
+    ensures { λ r. ⌜ r ≡ told placing ⌝ }
+{
+    let answer = placing.answer;
+    let row = placing.row;
+    Changed { answer, row }
+}
+
+// Lends the kept plan to a load, and keeps what it answers.
+pub fn begin(controller: Controller, jobs: Jobs, capacity: i32) -> Controller
+    requires { ⌜ Sound (controller .plan) ⌝ }
+    ensures { λ r. ⌜ r ≡ begun controller jobs capacity ⌝ }
+    ensures { λ r. ⌜ Sound (r .plan) ⌝ }
+{
+    let mut kept = controller;
+    let placing = load_in_place(&mut kept.plan, jobs, capacity);
+    kept.last = answer_of(placing);
+    kept
+}
+
+// Lends the kept plan to an update, and keeps what it answers.
+pub fn step(controller: Controller, id: i32, earliest: i32, latest: i32) -> Controller
+    requires { ⌜ Sound (controller .plan) ⌝ }
+    ensures { λ r. ⌜ r ≡ stepped controller id earliest latest ⌝ }
+    ensures { λ r. ⌜ Sound (r .plan) ⌝ }
+{
+    let mut kept = controller;
+    kept.last = update_in_place(&mut kept.plan, id, earliest, latest);
+    kept
+}
