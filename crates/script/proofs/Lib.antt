@@ -1,0 +1,4 @@
+pub mod Pages
+pub mod Reading
+pub mod Rows
+pub mod Running

@@ -1,0 +1,29 @@
+-- How a script is read: a number's kind, the command at a place by the numbers there, and what of the script it takes.
+-- Assumes nothing.
+use mathlib.Core.Path.{_≡_, refl}
+use mathlib.Core.Bool.{true, false, true≢false}
+use mathlib.Core.List.{List}
+use Prim.Native.Nat.{ℕ, _+_, _-_}
+use native.Mathlib.Nat.{add-zero}
+use native.Mathlib.Omega.{arith}
+use borrow.Author.Tests.{ltb-true}
+use lib.IntN.{ℤ, pos, negsuc, natAbs}
+use lib.ListN.{length, drop, length-drop}
+use lib.Seq.{getD-drop}
+use lib.Signed.{ltZ, nonNeg}
+use lib.Dec.{T}
+use Rattle.script.specs.Commands.{kindOf, commandWith, numberAt, commandOf}
+
+-- a negative number is no kind, and any other is its own
+pub kind-negative : (z : ℤ) → ltZ z (pos 0) ≡ true → 0 ≡ kindOf z
+kind-negative (pos n) e = omega (arith, ltb-true n 0 e)
+kind-negative (negsuc n) e = refl
+
+pub kind-amount : (z : ℤ) → ltZ z (pos 0) ≡ false → T (nonNeg z) × (natAbs z ≡ kindOf z)
+kind-amount (pos n) e = (tt, refl)
+kind-amount (negsuc n) e = absurd (true≢false e)
+
+pub command-read : (s : List ℤ) (at : ℕ)
+    → commandOf (drop at s) ≡ commandWith (kindOf (numberAt s at)) (length s - at) (numberAt s (at + 1)) (numberAt s (at + 2)) (numberAt s (at + 3)) (numberAt s (at + 4))
+unfolding commandOf
+command-read s at = simp (getD-drop, length-drop, add-zero)

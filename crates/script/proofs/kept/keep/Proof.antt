@@ -1,0 +1,27 @@
+-- `keep` meets its contract: a job is stored behind the others where there is room.
+-- Assumes nothing.
+use borrow.Author.Tests.{lt-ltb, le-ltb}
+use Rattle.script.specs.Sessions.{keeping}
+use borrow.Author.Needs.{needs}
+use Rattle.script.proofs.kept.keep.Statement.{statement}
+use Rattle.script.proofs.kept.keep.Tie as tie
+
+mul-job : tie.Need-mul-job
+mul-job c = search needs
+
+element-set-from-job : tie.Need-element-set-from-job
+element-set-from-job c = search needs
+
+add-more : tie.Need-add-more
+add-more c = search needs
+
+returns : tie.Need-returns
+unfolding keeping
+returns c = rw (lt-ltb _ _ (c .if1 .taken))
+
+returns-2 : tie.Need-returns-2
+unfolding keeping
+returns-2 c = rw (le-ltb _ _ (c .if1 .left))
+
+pub keep-spec : {M : Type 1} → statement M
+keep-spec = tie.close (tie.spec mul-job element-set-from-job add-more returns returns-2)

@@ -1,0 +1,5 @@
+pub mod Commands
+pub mod Pages
+pub mod Numbers
+pub mod Sessions
+pub mod Runs

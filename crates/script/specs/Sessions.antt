@@ -1,0 +1,54 @@
+-- A session: a plan, and the jobs that are kept for its next load. What a command leads to.
+use mathlib.Core.Bool.{cond}
+use mathlib.Core.List.{List, []}
+use Prim.Native.Nat.{_+_}
+use lib.Dec.{ltb}
+use lib.IntN.{ℤ}
+use lib.ListN.{set}
+use Rattle.time_table.specs.Held.{pad}
+use Rattle.planner.specs.declared.Job.{Job}
+use Rattle.planner.specs.declared.Jobs.{Jobs}
+use Rattle.planner.specs.declared.Plan.{Plan}
+use Rattle.planner.specs.declared.Updated.{Updated}
+use Rattle.planner.specs.Given.{noJob}
+use Rattle.planner.specs.History.{withoutPlaces}
+use Rattle.planner.specs.Loads.{loaded}
+use Rattle.planner.specs.Updates.{updated}
+use Rattle.script.specs.declared.Command.{Command}
+use Rattle.script.specs.declared.Command.the-variants as command
+use Rattle.script.specs.declared.Call.{Call}
+use Rattle.script.specs.declared.Call.the-variants.{Load, Update}
+use Rattle.script.specs.declared.Ask.the-variants.{Keep, FirstFit, Rows, Unreadable}
+use Rattle.script.specs.Numbers.{answerNumbers, askNumbers}
+
+-- no jobs
+abbrev pub noJobs : Jobs
+noJobs = record { list = pad 32 noJob []; count = 0 }
+
+-- a job is kept behind the others, up to the 32nd
+unfoldable pub keeping : Jobs → Job → Jobs
+keeping jobs job = cond (ltb (jobs .count) 32) (record { list = set (jobs .list) (jobs .count) job; count = jobs .count + 1 }) jobs
+
+-- a load, accepted or not, leaves none
+abbrev pub keptAfter : Jobs → Command → Jobs
+keptAfter jobs (command.Call (Load capacity)) = noJobs
+keptAfter jobs (command.Call (Update id earliest latest)) = jobs
+keptAfter jobs (command.Ask (Keep job)) = keeping jobs job
+keptAfter jobs (command.Ask (FirstFit id)) = jobs
+keptAfter jobs (command.Ask Rows) = jobs
+keptAfter jobs (command.Ask Unreadable) = jobs
+
+-- the answer of a load of the kept jobs, or of an update, and the plan afterwards
+abbrev pub called : Plan → Jobs → Call → Updated
+called plan jobs (Load capacity) = withoutPlaces (loaded plan jobs capacity)
+called plan jobs (Update id earliest latest) = updated plan id earliest latest
+
+-- the plan after a command
+abbrev pub planAfter : Plan → Jobs → Command → Plan
+planAfter plan jobs (command.Call call) = called plan jobs call .plan
+planAfter plan jobs (command.Ask ask) = plan
+
+-- the numbers of the answer
+abbrev pub said : Plan → Jobs → Command → List ℤ
+said plan jobs (command.Call call) = answerNumbers (called plan jobs call .answer) (called plan jobs call .row)
+said plan jobs (command.Ask ask) = askNumbers plan (jobs .count) ask

@@ -1,0 +1,89 @@
+// The jobs that are kept for the next load, and what a load and an update lead to.
+ghost use mathlib.Core.Path.{_≡_};
+ghost use Rattle.planner.specs.Sound.{Sound};
+ghost use Rattle.planner.specs.History.{withoutPlaces};
+ghost use Rattle.planner.specs.Loads.{loaded};
+ghost use Rattle.script.specs.Sessions.{noJobs, keeping, keptAfter, called};
+use crate::Ask;
+use crate::Call;
+use crate::Command;
+use planner::Job;
+use planner::Jobs;
+use planner::Plan;
+use planner::Updated;
+
+// No jobs.
+pub(crate) fn no_jobs() -> Jobs
+    ensures { λ r. ⌜ r ≡ noJobs ⌝ }
+{
+    let none = Job {
+        earliest: 0,
+        latest: 0,
+        duration: 0,
+        usage: 0,
+    };
+    Jobs {
+        list: [none; 32],
+        count: 0,
+    }
+}
+
+// The jobs with another behind them, if there is room for it.
+fn keep(jobs: Jobs, job: Job) -> Jobs
+    ensures { λ r. ⌜ r ≡ keeping jobs job ⌝ }
+{
+    let mut more = jobs;
+    let count = more.count;
+    if count < Plan::JOBS {
+        more.list[count] = job;
+        more.count = count + 1;
+    }
+    more
+}
+
+// The jobs that are kept after a command.
+pub(crate) fn kept(jobs: Jobs, command: Command) -> Jobs
+    ensures { λ r. ⌜ r ≡ keptAfter jobs command ⌝ }
+{
+    match command {
+        Command::Call(call) => match call {
+            Call::Load(_) => no_jobs(),
+            Call::Update(_, _, _) => jobs,
+        },
+        Command::Ask(ask) => match ask {
+            Ask::Keep(job) => keep(jobs, job),
+            Ask::FirstFit(_) => jobs,
+            Ask::Rows => jobs,
+            Ask::Unreadable => jobs,
+        },
+    }
+}
+
+// What a load of the jobs leads to.
+fn load(plan: Plan, jobs: Jobs, capacity: i32) -> Updated
+    requires { ⌜ Sound plan ⌝ }
+    ensures { λ r. ⌜ r ≡ withoutPlaces (loaded plan jobs capacity) ⌝ }
+    ensures { λ r. ⌜ Sound (r .plan) ⌝ }
+{
+    let loaded = plan.load(jobs, capacity);
+    let answer = loaded.answer;
+    let row = loaded.row;
+    let after = loaded.plan;
+    Updated {
+        answer,
+        row,
+        plan: after,
+    }
+}
+
+// What a load or an update leads to.
+pub(crate) fn call(plan: Plan, jobs: Jobs, call: Call) -> Updated
+    requires { ⌜ Sound plan ⌝ }
+    ensures { λ r. ⌜ r ≡ called plan jobs call ⌝ }
+    ensures { λ r. ⌜ Sound (r .plan) ⌝ }
+{
+    match call {
+        Call::Load(capacity) => load(plan, jobs, capacity),
+        Call::Update(id, earliest, latest) => plan.update(id, earliest, latest),
+    }
+}

@@ -1,0 +1,64 @@
+// The pass planner for programs in other languages: a script of commands, given as numbers in a lent
+// slice, is run on a fresh plan, and the answers are written as numbers to another.
+mod answers;
+mod commands;
+mod kept;
+
+ghost use mathlib.Core.Path.{_≡_};
+ghost use lib.ListN.{length};
+ghost use Prim.Native.Nat.{min};
+ghost use Rattle.script.specs.Runs.{run};
+ghost use Rattle.script.specs.Pages.{laid};
+use planner::Job;
+use planner::Plan;
+
+// A command that may change the plan.
+pub enum Call {
+    Load(i32),
+    Update(i32, i32, i32),
+}
+
+// A command that leaves the plan as it is.
+pub enum Ask {
+    Keep(Job),
+    FirstFit(i32),
+    Rows,
+    Unreadable,
+}
+
+// One command of a script.
+pub enum Command {
+    Call(Call),
+    Ask(Ask),
+}
+
+// Runs a script on a fresh plan, writes the answers as far as there is room, and returns how many
+// numbers were written.
+#[no_mangle]
+pub extern "C" fn pass_planner_run(script: &[i32], answers: &mut [i32]) -> usize
+    ensures { λ r. ⌜ now (answers .exit) ≡ laid (run (now (script .entry))) (now (answers .entry)) ⌝ }
+    ensures { λ r. ⌜ r ≡ min (length (run (now (script .entry)))) (length (now (answers .entry))) ⌝ }
+{
+    let mut plan = Plan::fresh();
+    let mut jobs = kept::no_jobs();
+    let mut written = 0;
+    let mut at = 0;
+    while at < script.len() {
+        let command = commands::command_at(script, at);
+        match command {
+            Command::Call(call) => {
+                let updated = kept::call(plan, jobs, call);
+                let answer = updated.answer;
+                let row = updated.row;
+                plan = updated.plan;
+                written = answers::put_answer(answers, written, answer, row);
+            }
+            Command::Ask(ask) => {
+                written = answers::put_ask(answers, written, plan, jobs.count, ask);
+            }
+        }
+        jobs = kept::kept(jobs, command);
+        at = at + 1 + commands::arguments_of(command, script.len() - at - 1);
+    }
+    written
+}
