@@ -4,10 +4,10 @@ use mathlib.Core.Path.{_≡_}
 use Prim.Native.Nat.{ℕ, _+_}
 use native.Mathlib.Omega.{arith}
 use lib.IntN.{ℤ}
-use lib.ListN.{length, take, length-append}
+use lib.ListN.{length, length-append}
 use Rattle.planner.specs.declared.RowRecord.{RowRecord}
 use Rattle.command.specs.Decimal.{decimal, signedText}
-use Rattle.command.specs.Text.{countText, overloadText, startText, idsText, rowText}
+use Rattle.command.specs.Text.{countText, overloadText, startText}
 
 pub count-length : (letter n : ℕ) → length (countText letter n) ≡ length (decimal n) + 3
 unfolding countText
@@ -20,9 +20,3 @@ overload-length r = simp length-append (omega arith)
 pub start-length : (z : ℤ) → length (startText z) ≡ length (signedText z) + 3
 unfolding startText
 start-length z = simp length-append (omega arith)
-
-pub row-length : (r : RowRecord)
-    → length (rowText r)
-    ≡ length (signedText (r .start)) + length (signedText (r .end)) + length (decimal (r .height)) + length (idsText (take (r .count) (r .ids))) + 3
-unfolding rowText
-row-length r = simp length-append (omega arith)

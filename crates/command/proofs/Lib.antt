@@ -12,3 +12,5 @@ pub mod Outcomes
 pub mod ShownRows
 pub mod Serving
 pub mod Transcript
+pub mod Examples
+pub mod Unique

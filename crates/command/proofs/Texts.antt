@@ -1,12 +1,12 @@
--- Texts one behind the other: one more at the end, and how much room they take.
+-- Texts one behind the other: one more at the end.
 -- Assumes nothing.
 use mathlib.Core.Path.{_≡_, refl, sym, ap, _∙_}
 use mathlib.Core.List.{List, [], _∷_, _++_, append-assoc, append-nil}
-use Prim.Native.Nat.{ℕ, zero, suc, _+_, _-_, _≤_, _<_}
+use Prim.Native.Nat.{ℕ, zero, suc, _+_, _-_, _<_}
 use native.Mathlib.Numerals.{add-one}
 use native.Mathlib.Omega.{arith}
-use lib.ListN.{length, take, drop, getD, length-append}
-use lib.Seq.{take-suc, take-add}
+use lib.ListN.{length, take, getD}
+use lib.Seq.{take-suc}
 use Rattle.command.specs.Text.{textOf}
 
 -- what stands at a place of a list does not depend on what would stand past its end
@@ -27,10 +27,3 @@ module _ {A : Type 0} (f : A → List ℕ) where
 
   pub texts-more : (l : List A) (i : ℕ) (d : A) → i < length l → textOf f (take (i + 1) l) ≡ textOf f (take i l) ++ f (getD l i d)
   texts-more l i d h = rw (add-one i, take-suc l i d, texts-append) (ap (λ (t : List ℕ). textOf f (take i l) ++ t) (text-one (getD l i d)))
-
-  pub texts-room : (l : List A) (i n : ℕ) (d : A) → i < n → n ≤ length l → length (textOf f (take i l)) + length (f (getD l i d)) ≤ length (textOf f (take n l))
-  texts-room l i n d h k =
-      let whole : n ≡ (i + 1) + (n - (i + 1)) = omega arith in
-      let split : take n l ≡ take (i + 1) l ++ take (n - (i + 1)) (drop (i + 1) l) = ap (λ (m : ℕ). take m l) whole ∙ take-add (i + 1) (n - (i + 1)) l in
-      let both = ap length (ap (textOf f) split ∙ texts-append (take (i + 1) l) (take (n - (i + 1)) (drop (i + 1) l))) in
-      omega (arith, simp length-append at both, simp length-append at (ap length (texts-more l i d (omega arith))))

@@ -1,10 +1,10 @@
 -- Whatever pieces the input arrives in, what is printed for them, one after the other, is the transcript of the whole input.
 -- Assumes nothing.
-use mathlib.Core.Path.{_≡_, refl, sym, ap, _∙_}
+use mathlib.Core.Path.{_≡_, refl, sym, ap, _∙_, subst}
 use mathlib.Core.Bool.{Bool, true, false, cond}
 use mathlib.Core.List.{List, [], _∷_, _++_, append-nil}
 use mathlib.Core.Logic.{⊎-elim}
-use Prim.Native.Nat.{ℕ, _+_, _≤_, _<_}
+use Prim.Native.Nat.{ℕ, zero, suc, _+_, _≤_, _<_}
 use native.Mathlib.Decide.{ℕ-discrete}
 use native.Mathlib.Omega.{arith}
 use lib.Dec.{eqb}
@@ -19,7 +19,7 @@ use Rattle.command.specs.Sessions.{outcome, answered}
 use Rattle.command.specs.Lines.{linesAfter, lastLine, printed, transcript, bytesOf, readerOf, HeldLine, grown, filling, freshState, lineTaken, bytesTaken, taken, served, finished, joined, Prints, line, next, end}
 use Rattle.command.proofs.Fields.{line-long}
 use Rattle.command.proofs.Filling.{grown-more, grown-full}
-use Rattle.command.proofs.Serving.{taken-next, nothing-left, line-left}
+use Rattle.command.proofs.Serving.{taken-next, nothing-left, line-left, served-further}
 
 -- two lines that are too long are answered alike
 alike : (s : Session) (l m : List ℕ) → 80 < length l → 80 < length m → answered s l ≡ answered s m
@@ -163,3 +163,28 @@ from-there {st} {piece} {at} (end past) h = rw (drop-of-length-le piece past) (s
 
 pub any-pieces : (pieces : List (List ℕ)) (text : List ℕ) → Prints freshState [] 0 pieces text → text ≡ transcript (joined pieces)
 any-pieces pieces text p = from-there p (reader-held [] (omega arith))
+
+-- and there is such a run for all pieces: each line takes a byte at least
+abbrev Run : State → List ℕ → ℕ → List (List ℕ) → Type 0
+Run st piece at pieces = (text : List ℕ) × Prints st piece at pieces text
+
+within : (k : ℕ) (pieces : List (List ℕ)) → ((st : State) (piece : List ℕ) (at : ℕ) → length piece ≤ at → Run st piece at pieces)
+    → (st : State) (piece : List ℕ) (at : ℕ) → length piece ≤ at + k → Run st piece at pieces
+within zero pieces rest st piece at h = rest st piece at (omega arith)
+within (suc k) pieces rest st piece at h =
+    ⊎-elim
+    (λ inside. let r = within k pieces rest (served st at (drop at piece) .state) piece (served st at (drop at piece) .next) (omega (arith, served-further st at piece inside)) in
+    (served st at (drop at piece) .text ++ r .0, line inside (r .1)))
+    (λ past. rest st piece at past)
+    (lt-or-le at (length piece))
+
+behind : (pieces : List (List ℕ)) (st : State) (piece : List ℕ) (at : ℕ) → length piece ≤ at → Run st piece at pieces
+behind [] st piece at past = (finished st, end past)
+behind (more ∷ pieces) st piece at past =
+    let r = within (length more) pieces (behind pieces) st more 0 (omega arith) in
+    (r .0, next past (r .1))
+
+pub pieces-printed : (pieces : List (List ℕ)) → Prints freshState [] 0 pieces (transcript (joined pieces))
+pieces-printed pieces =
+    let r = behind pieces freshState [] 0 (omega arith) in
+    subst (λ (text : List ℕ). Prints freshState [] 0 pieces text) (any-pieces pieces (r .0) (r .1)) (r .1)

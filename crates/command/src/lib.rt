@@ -1,10 +1,10 @@
 // The command language of the pass planner: lines of bytes to commands, answers to lines of bytes, and
 // a session that holds a plan and the jobs kept for its next load. No input or output.
-pub mod commands;
+mod commands;
 pub mod lines;
 pub mod number;
 pub mod parse;
-pub mod text;
+mod text;
 
 use planner::Job;
 use planner::Jobs;

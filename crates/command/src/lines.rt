@@ -38,7 +38,7 @@ pub struct Served {
 
 impl Reader {
     // A line without bytes.
-    pub fn empty() -> Reader
+    pub(crate) fn empty() -> Reader
         ensures { λ r. ⌜ r ≡ readerOf [] ⌝ }
     {
         Reader {
@@ -49,7 +49,7 @@ impl Reader {
 }
 
 // Takes bytes up to the first line feed, or all that are there.
-pub fn fill(reader: Reader, chunk: &[u8], from: usize) -> Filled
+pub(crate) fn fill(reader: Reader, chunk: &[u8], from: usize) -> Filled
     requires { ⌜ HeldLine reader ⌝ }
     ensures { λ r. ⌜ r ≡ filling (bytesOf reader) from (drop from (now (chunk .entry))) ⌝ }
     ensures { λ r. ⌜ HeldLine (r .reader) ⌝ }

@@ -24,7 +24,7 @@ fn wide(byte: u8) -> u64
 }
 
 // The number that at most ten digits say.
-pub fn magnitude_of(digits: &[u8]) -> Magnitude
+pub(crate) fn magnitude_of(digits: &[u8]) -> Magnitude
     requires { ⌜ length (now digits) ≤ 10 ⌝ }
     ensures { λ r. ⌜ r ≡ magnitudeFrom 0 (now (digits .entry)) ⌝ }
 {
@@ -45,7 +45,7 @@ pub fn magnitude_of(digits: &[u8]) -> Magnitude
 }
 
 // A number with this sign and magnitude, where 32 bits hold it.
-pub fn ranged(minus: bool, magnitude: u64) -> Number
+pub(crate) fn ranged(minus: bool, magnitude: u64) -> Number
     ensures { λ r. ⌜ r ≡ within minus magnitude ⌝ }
 {
     if minus {
@@ -61,7 +61,7 @@ pub fn ranged(minus: bool, magnitude: u64) -> Number
 }
 
 // The number of one to ten digits after its sign.
-pub fn signed(minus: bool, digits: &[u8]) -> Number
+pub(crate) fn signed(minus: bool, digits: &[u8]) -> Number
     ensures { λ r. ⌜ r ≡ signedOf minus (now (digits .entry)) ⌝ }
 {
     if digits.len() < 1 {
@@ -78,7 +78,7 @@ pub fn signed(minus: bool, digits: &[u8]) -> Number
 }
 
 // The number that a field of a line says.
-pub fn number_of(field: &[u8]) -> Number
+pub(crate) fn number_of(field: &[u8]) -> Number
     ensures { λ r. ⌜ r ≡ numberOf (now (field .entry)) ⌝ }
 {
     if field.len() == 0 {

@@ -19,7 +19,7 @@ pub struct Numbers {
 }
 
 // Where the field that starts here ends: at the next space, or with the line.
-pub fn field_end(line: &[u8], at: usize) -> usize
+pub(crate) fn field_end(line: &[u8], at: usize) -> usize
     requires { ⌜ at ≤ length (now line) ⌝ }
     ensures { λ r. ⌜ r ≡ at + fieldLength (drop at (now (line .entry))) ⌝ }
 {
@@ -34,7 +34,7 @@ pub fn field_end(line: &[u8], at: usize) -> usize
 }
 
 // The numbers of the fields from here on.
-pub fn numbers_of(line: &[u8], from: usize) -> Numbers
+pub(crate) fn numbers_of(line: &[u8], from: usize) -> Numbers
     ensures { λ r. ⌜ r ≡ numbersWith (valuesOf (fieldsFrom (now (line .entry)) from)) ⌝ }
 {
     let mut list = [0i32; 4];
@@ -69,7 +69,7 @@ pub fn numbers_of(line: &[u8], from: usize) -> Numbers
 }
 
 // How many numbers a letter takes.
-pub fn takes(letter: u8) -> usize
+pub(crate) fn takes(letter: u8) -> usize
     ensures { λ r. ⌜ r ≡ numbersTaken letter ⌝ }
 {
     if letter == b'J' {
@@ -88,7 +88,7 @@ pub fn takes(letter: u8) -> usize
 }
 
 // The command of a letter and its numbers.
-pub fn command_with(letter: u8, numbers: Numbers) -> Command
+pub(crate) fn command_with(letter: u8, numbers: Numbers) -> Command
     requires { ⌜ heldNumbers numbers ⌝ }
     ensures { λ r. ⌜ r ≡ cond (numbers .ok) (byLetter letter (take (numbers .count) (numbers .list))) Unreadable ⌝ }
 {

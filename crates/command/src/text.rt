@@ -16,7 +16,7 @@ use planner::RowRecord;
 use planner::Rows;
 
 // One byte.
-pub fn put_byte(out: &mut [u8], at: usize, byte: u8) -> usize
+pub(crate) fn put_byte(out: &mut [u8], at: usize, byte: u8) -> usize
     requires { ⌜ Room (now out) at (byte ∷ []) ⌝ }
     ensures { λ r. ⌜ Written (now (out .entry)) at (byte ∷ []) (now (out .exit)) r ⌝ }
 {
@@ -25,7 +25,7 @@ pub fn put_byte(out: &mut [u8], at: usize, byte: u8) -> usize
 }
 
 // A number in decimal digits.
-pub fn put_number(out: &mut [u8], at: usize, n: u32) -> usize
+pub(crate) fn put_number(out: &mut [u8], at: usize, n: u32) -> usize
     requires { ⌜ Room (now out) at (decimal n) ⌝ }
     ensures { λ r. ⌜ Written (now (out .entry)) at (decimal n) (now (out .exit)) r ⌝ }
 {
@@ -37,7 +37,7 @@ pub fn put_number(out: &mut [u8], at: usize, n: u32) -> usize
 }
 
 // A number without its sign.
-pub fn magnitude(x: i32) -> u32
+pub(crate) fn magnitude(x: i32) -> u32
     ensures { λ r. ⌜ r ≡ natAbs x ⌝ }
 {
     if x < 0 {
@@ -47,7 +47,7 @@ pub fn magnitude(x: i32) -> u32
 }
 
 // A number with its sign.
-pub fn put_signed(out: &mut [u8], at: usize, x: i32) -> usize
+pub(crate) fn put_signed(out: &mut [u8], at: usize, x: i32) -> usize
     requires { ⌜ Room (now out) at (signedText x) ⌝ }
     ensures { λ r. ⌜ Written (now (out .entry)) at (signedText x) (now (out .exit)) r ⌝ }
 {
@@ -59,7 +59,7 @@ pub fn put_signed(out: &mut [u8], at: usize, x: i32) -> usize
 }
 
 // A space and a number.
-pub fn put_next(out: &mut [u8], at: usize, n: u32) -> usize
+pub(crate) fn put_next(out: &mut [u8], at: usize, n: u32) -> usize
     requires { ⌜ Room (now out) at (spaced (decimal n)) ⌝ }
     ensures { λ r. ⌜ Written (now (out .entry)) at (spaced (decimal n)) (now (out .exit)) r ⌝ }
 {
@@ -68,7 +68,7 @@ pub fn put_next(out: &mut [u8], at: usize, n: u32) -> usize
 }
 
 // A space and a number with its sign.
-pub fn put_next_signed(out: &mut [u8], at: usize, x: i32) -> usize
+pub(crate) fn put_next_signed(out: &mut [u8], at: usize, x: i32) -> usize
     requires { ⌜ Room (now out) at (spaced (signedText x)) ⌝ }
     ensures { λ r. ⌜ Written (now (out .entry)) at (spaced (signedText x)) (now (out .exit)) r ⌝ }
 {
@@ -77,7 +77,7 @@ pub fn put_next_signed(out: &mut [u8], at: usize, x: i32) -> usize
 }
 
 // A letter alone in its line.
-pub fn put_letter(out: &mut [u8], at: usize, letter: u8) -> usize
+pub(crate) fn put_letter(out: &mut [u8], at: usize, letter: u8) -> usize
     requires { ⌜ Room (now out) at (letterText letter) ⌝ }
     ensures { λ r. ⌜ Written (now (out .entry)) at (letterText letter) (now (out .exit)) r ⌝ }
 {
@@ -86,7 +86,7 @@ pub fn put_letter(out: &mut [u8], at: usize, letter: u8) -> usize
 }
 
 // A letter and a number.
-pub fn put_count(out: &mut [u8], at: usize, letter: u8, n: u32) -> usize
+pub(crate) fn put_count(out: &mut [u8], at: usize, letter: u8, n: u32) -> usize
     requires { ⌜ Room (now out) at (countText letter n) ⌝ }
     ensures { λ r. ⌜ Written (now (out .entry)) at (countText letter n) (now (out .exit)) r ⌝ }
 {
@@ -96,7 +96,7 @@ pub fn put_count(out: &mut [u8], at: usize, letter: u8, n: u32) -> usize
 }
 
 // Document 01's number of a refusal.
-pub fn number_of(why: Refusal) -> u32
+pub(crate) fn number_of(why: Refusal) -> u32
     ensures { λ r. ⌜ r ≡ numberOf why ⌝ }
 {
     match why {
@@ -115,7 +115,7 @@ pub fn number_of(why: Refusal) -> u32
 }
 
 // `R` and the number of a refusal.
-pub fn put_refusal(out: &mut [u8], at: usize, why: Refusal) -> usize
+pub(crate) fn put_refusal(out: &mut [u8], at: usize, why: Refusal) -> usize
     requires { ⌜ at + 64 ≤ length (now out) ⌝ }
     ensures { λ r. ⌜ Written (now (out .entry)) at (refusalText why) (now (out .exit)) r ⌝ }
 {
@@ -123,7 +123,7 @@ pub fn put_refusal(out: &mut [u8], at: usize, why: Refusal) -> usize
 }
 
 // `O` with start, end and height.
-pub fn put_overload(out: &mut [u8], at: usize, row: RowRecord) -> usize
+pub(crate) fn put_overload(out: &mut [u8], at: usize, row: RowRecord) -> usize
     requires { ⌜ at + 64 ≤ length (now out) ⌝ }
     ensures { λ r. ⌜ Written (now (out .entry)) at (overloadText row) (now (out .exit)) r ⌝ }
 {
@@ -135,7 +135,7 @@ pub fn put_overload(out: &mut [u8], at: usize, row: RowRecord) -> usize
 }
 
 // The answer of a load or an update.
-pub fn put_answer(out: &mut [u8], at: usize, answer: Answer, row: RowRecord) -> usize
+pub(crate) fn put_answer(out: &mut [u8], at: usize, answer: Answer, row: RowRecord) -> usize
     requires { ⌜ at + 64 ≤ length (now out) ⌝ }
     ensures { λ r. ⌜ Written (now (out .entry)) at (answerText answer row) (now (out .exit)) r ⌝ }
 {
@@ -147,7 +147,7 @@ pub fn put_answer(out: &mut [u8], at: usize, answer: Answer, row: RowRecord) -> 
 }
 
 // `S` with the start.
-pub fn put_start(out: &mut [u8], at: usize, start: i32) -> usize
+pub(crate) fn put_start(out: &mut [u8], at: usize, start: i32) -> usize
     requires { ⌜ at + 64 ≤ length (now out) ⌝ }
     ensures { λ r. ⌜ Written (now (out .entry)) at (startText start) (now (out .exit)) r ⌝ }
 {
@@ -157,7 +157,7 @@ pub fn put_start(out: &mut [u8], at: usize, start: i32) -> usize
 }
 
 // The answer of a question for the first fit.
-pub fn put_fit(out: &mut [u8], at: usize, fit: FirstFit) -> usize
+pub(crate) fn put_fit(out: &mut [u8], at: usize, fit: FirstFit) -> usize
     requires { ⌜ at + 64 ≤ length (now out) ⌝ }
     ensures { λ r. ⌜ Written (now (out .entry)) at (fitText fit) (now (out .exit)) r ⌝ }
 {
@@ -169,7 +169,7 @@ pub fn put_fit(out: &mut [u8], at: usize, fit: FirstFit) -> usize
 }
 
 // The ids of a row, each after a space.
-pub fn put_ids(out: &mut [u8], from: usize, row: RowRecord) -> usize
+pub(crate) fn put_ids(out: &mut [u8], from: usize, row: RowRecord) -> usize
     requires { ⌜ heldIds row ⌝ }
     requires { ⌜ from + 352 ≤ length (now out) ⌝ }
     ensures { λ r. ⌜ Written (now (out .entry)) from (idsText (idsOf row)) (now (out .exit)) r ⌝ }
@@ -187,7 +187,7 @@ pub fn put_ids(out: &mut [u8], from: usize, row: RowRecord) -> usize
 }
 
 // A row: start, end, height and the ids in list order.
-pub fn put_row(out: &mut [u8], at: usize, row: RowRecord) -> usize
+pub(crate) fn put_row(out: &mut [u8], at: usize, row: RowRecord) -> usize
     requires { ⌜ heldIds row ⌝ }
     requires { ⌜ at + 400 ≤ length (now out) ⌝ }
     ensures { λ r. ⌜ Written (now (out .entry)) at (rowText row) (now (out .exit)) r ⌝ }
@@ -201,7 +201,7 @@ pub fn put_row(out: &mut [u8], at: usize, row: RowRecord) -> usize
 }
 
 // Each of the rows in its line.
-pub fn put_rows(out: &mut [u8], from: usize, rows: Rows) -> usize
+pub(crate) fn put_rows(out: &mut [u8], from: usize, rows: Rows) -> usize
     requires { ⌜ Shown rows ⌝ }
     requires { ⌜ from + 51200 ≤ length (now out) ⌝ }
     ensures { λ r. ⌜ Written (now (out .entry)) from (rowsText (rowsOf rows)) (now (out .exit)) r ⌝ }
@@ -219,7 +219,7 @@ pub fn put_rows(out: &mut [u8], from: usize, rows: Rows) -> usize
 }
 
 // The rows, then `E` and their count; or a refusal.
-pub fn put_table(out: &mut [u8], at: usize, rows: Rows) -> usize
+pub(crate) fn put_table(out: &mut [u8], at: usize, rows: Rows) -> usize
     requires { ⌜ Shown rows ⌝ }
     requires { ⌜ at + longest ≤ length (now out) ⌝ }
     ensures { λ r. ⌜ Written (now (out .entry)) at (tableText rows) (now (out .exit)) r ⌝ }

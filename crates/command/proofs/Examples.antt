@@ -1,0 +1,80 @@
+-- Lines and texts of document 01, by computation.
+-- Assumes nothing.
+use mathlib.Core.Path.{_≡_, refl}
+use mathlib.Core.List.{[], _∷_}
+use lib.IntN.{pos, negsuc}
+use Rattle.time_table.specs.Held.{pad}
+use Rattle.command.specs.declared.number.Number.{Number}
+use Rattle.command.specs.declared.Command.the-variants.{Keep, Update, Fit, Rows, Unreadable}
+use Rattle.command.specs.Decimal.{digitsIn, decimal, signedText}
+use Rattle.command.specs.Numbers.{isDigit, magnitudeFrom, signedOf, numberOf}
+use Rattle.command.specs.Grammar.{fieldsOf, valuesOf, numbersTaken, commandWith, byLetter, commandOf}
+use Rattle.command.specs.Text.{textOf, rowText, countText, overloadText}
+
+-- `J 0 0 4 2`, `U 2 -9 11`, `P -0`, `T`
+job : commandOf (74 ∷ 32 ∷ 48 ∷ 32 ∷ 48 ∷ 32 ∷ 52 ∷ 32 ∷ 50 ∷ []) ≡ Keep (record { earliest = pos 0; latest = pos 0; duration = pos 4; usage = pos 2 })
+unfolding commandOf fieldsOf valuesOf byLetter commandWith numbersTaken numberOf signedOf magnitudeFrom isDigit
+job = refl
+
+update : commandOf (85 ∷ 32 ∷ 50 ∷ 32 ∷ 45 ∷ 57 ∷ 32 ∷ 49 ∷ 49 ∷ []) ≡ Update (pos 2) (negsuc 8) (pos 11)
+unfolding commandOf fieldsOf valuesOf byLetter commandWith numbersTaken numberOf signedOf magnitudeFrom isDigit
+update = refl
+
+minus-nothing : commandOf (80 ∷ 32 ∷ 45 ∷ 48 ∷ []) ≡ Fit (pos 0)
+unfolding commandOf fieldsOf valuesOf byLetter commandWith numbersTaken numberOf signedOf magnitudeFrom isDigit
+minus-nothing = refl
+
+rows : commandOf (84 ∷ []) ≡ Rows
+unfolding commandOf fieldsOf valuesOf byLetter commandWith numbersTaken
+rows = refl
+
+-- no line, a space behind, two spaces, a plus, a number too many
+empty : commandOf [] ≡ Unreadable
+unfolding commandOf fieldsOf
+empty = refl
+
+space-behind : commandOf (84 ∷ 32 ∷ []) ≡ Unreadable
+unfolding commandOf fieldsOf valuesOf numberOf
+space-behind = refl
+
+two-spaces : commandOf (80 ∷ 32 ∷ 32 ∷ 48 ∷ []) ≡ Unreadable
+unfolding commandOf fieldsOf valuesOf numberOf
+two-spaces = refl
+
+plus : commandOf (80 ∷ 32 ∷ 43 ∷ 48 ∷ []) ≡ Unreadable
+unfolding commandOf fieldsOf valuesOf numberOf signedOf magnitudeFrom isDigit
+plus = refl
+
+too-many : commandOf (76 ∷ 32 ∷ 53 ∷ 32 ∷ 53 ∷ []) ≡ Unreadable
+unfolding commandOf fieldsOf valuesOf byLetter commandWith numbersTaken numberOf signedOf magnitudeFrom isDigit
+too-many = refl
+
+-- the ends of the range: -2147483648 and 2147483647 are numbers, and 2147483648 is none
+least : numberOf (45 ∷ 50 ∷ 49 ∷ 52 ∷ 55 ∷ 52 ∷ 56 ∷ 51 ∷ 54 ∷ 52 ∷ 56 ∷ []) ≡ Number.Is (negsuc 2147483647)
+unfolding numberOf signedOf magnitudeFrom isDigit
+least = refl
+
+greatest : numberOf (50 ∷ 49 ∷ 52 ∷ 55 ∷ 52 ∷ 56 ∷ 51 ∷ 54 ∷ 52 ∷ 55 ∷ []) ≡ Number.Is (pos 2147483647)
+unfolding numberOf signedOf magnitudeFrom isDigit
+greatest = refl
+
+past : numberOf (50 ∷ 49 ∷ 52 ∷ 55 ∷ 52 ∷ 56 ∷ 51 ∷ 54 ∷ 52 ∷ 56 ∷ []) ≡ Number.Bad
+unfolding numberOf signedOf magnitudeFrom isDigit
+past = refl
+
+-- `3 3 5 1 0`, `O 3 3 6`, `E 128`, and a start of -10
+row : rowText (record { start = pos 3; end = pos 3; height = 5; ids = pad 32 0 (1 ∷ 0 ∷ []); count = 2 }) ≡ 51 ∷ 32 ∷ 51 ∷ 32 ∷ 53 ∷ 32 ∷ 49 ∷ 32 ∷ 48 ∷ 10 ∷ []
+unfolding rowText textOf decimal digitsIn signedText
+row = refl
+
+overload : overloadText (record { start = pos 3; end = pos 3; height = 6; ids = pad 32 0 []; count = 0 }) ≡ 79 ∷ 32 ∷ 51 ∷ 32 ∷ 51 ∷ 32 ∷ 54 ∷ 10 ∷ []
+unfolding overloadText decimal digitsIn signedText
+overload = refl
+
+count : countText 69 128 ≡ 69 ∷ 32 ∷ 49 ∷ 50 ∷ 56 ∷ 10 ∷ []
+unfolding countText decimal digitsIn
+count = refl
+
+negative : signedText (negsuc 9) ≡ 45 ∷ 49 ∷ 48 ∷ []
+unfolding signedText decimal digitsIn
+negative = refl
