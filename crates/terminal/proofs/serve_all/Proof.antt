@@ -9,8 +9,8 @@ use Rattle.command.specs.Lines.{ReadyState}
 use Rattle.command.proofs.Serving.{served-further}
 use borrow.Author.Needs.{needs}
 use native.Mathlib.Omega.{arith}
-use Rattle.pass_planner.proofs.serve_all.Statement.{statement}
-use Rattle.pass_planner.proofs.serve_all.Tie as tie
+use Rattle.terminal.proofs.serve_all.Statement.{statement}
+use Rattle.terminal.proofs.serve_all.Tie as tie
 
 abbrev Inv-loop : tie.InvT-loop
 Inv-loop chunk out₀ state₀ at₀ out state at = ReadyState state × (length out ≡ length out₀)

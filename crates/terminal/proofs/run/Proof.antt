@@ -6,8 +6,8 @@ use lib.Seq.{length-take-le}
 use Rattle.command.specs.Lines.{ReadyState}
 use borrow.Author.Needs.{needs}
 use native.Mathlib.Omega.{arith}
-use Rattle.pass_planner.proofs.run.Statement.{statement}
-use Rattle.pass_planner.proofs.run.Tie as tie
+use Rattle.terminal.proofs.run.Statement.{statement}
+use Rattle.terminal.proofs.run.Tie as tie
 
 abbrev Inv-loop : tie.InvT-loop
 Inv-loop out₀ state₀ turns₀ out state turns = ReadyState state × (length out ≡ length out₀)
