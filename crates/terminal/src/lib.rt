@@ -7,28 +7,43 @@ use command::lines::State;
 use libc::STDIN_FILENO;
 use libc::STDOUT_FILENO;
 
-// The state after a read, and whether there may be more to read.
+// The state after some bytes, and whether to go on: not at the end of the input, and not once an answer
+// cannot be written.
 struct Reading {
     state: State,
     more: bool,
 }
 
-// Answers each line that these bytes end.
-fn serve_all(from: State, chunk: &[u8], out: &mut [u8]) -> State
+// Answers each line that these bytes end, up to an answer that cannot be written.
+fn serve_all(from: State, chunk: &[u8], out: &mut [u8]) -> Reading
     requires { ⌜ ReadyState from ⌝ }
     requires { ⌜ longest ≤ length (now out) ⌝ }
-    ensures { λ r. ⌜ ReadyState r ⌝ }
+    ensures { λ r. ⌜ ReadyState (r .state) ⌝ }
 {
     let mut state = from;
     let mut at = 0;
     while at < chunk.len() {
         let served = state.serve(chunk, at, out);
         let n = served.len;
-        io::write_all(STDOUT_FILENO, &out[..n]);
+        let written = io::write_all(STDOUT_FILENO, &out[..n]);
         state = served.state;
         at = served.next;
+        if !written {
+            return Reading { state, more: false };
+        }
     }
-    state
+    Reading { state, more: true }
+}
+
+// Answers the line that the end of the input ends, if one was begun.
+fn serve_last(state: State, out: &mut [u8]) -> Reading
+    requires { ⌜ ReadyState state ⌝ }
+    requires { ⌜ longest ≤ length (now out) ⌝ }
+    ensures { λ r. ⌜ ReadyState (r .state) ⌝ }
+{
+    let n = state.finish(out);
+    io::write_all(STDOUT_FILENO, &out[..n]);
+    Reading { state, more: false }
 }
 
 // Reads once, and answers the lines that are complete.
@@ -40,17 +55,13 @@ fn read_some(state: State, out: &mut [u8]) -> Reading
     let mut buffer = io::buffer();
     let got = libc::read(STDIN_FILENO, &mut buffer);
     if got <= 0 {
-        return Reading { state, more: false };
+        return serve_last(state, out);
     }
     let n = io::count(got, &buffer);
-    let after = serve_all(state, &buffer[..n], out);
-    Reading {
-        state: after,
-        more: true,
-    }
+    serve_all(state, &buffer[..n], out)
 }
 
-// How many turns are left after one: none at the end of the input.
+// How many turns are left after one: none where there is no more to do.
 fn turns_left(turns: u64, more: bool) -> u64
     requires { ⌜ 0 < turns ⌝ }
     ensures { λ r. ⌜ r < turns ⌝ }
@@ -71,12 +82,11 @@ fn run(out: &mut [u8]) -> State
         state = reading.state;
         turns = turns_left(turns, reading.more);
     }
-    let n = state.finish(out);
-    io::write_all(STDOUT_FILENO, &out[..n]);
     state
 }
 
-// Answers all of standard input on standard output, and says in what state that ended.
+// Answers standard input on standard output, up to its end or an answer that cannot be written, and says
+// in what state that ended.
 pub fn answer_input() -> State
     ensures { λ r. ⌜ ReadyState r ⌝ }
 {

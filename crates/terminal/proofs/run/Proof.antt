@@ -1,8 +1,7 @@
 -- `run` is safe and ends: the measure is the number of turns that are left, and the state stays ready.
 -- Assumes nothing.
-use mathlib.Core.Path.{_≡_, refl, sym, _∙_}
+use mathlib.Core.Path.{_≡_, refl, _∙_}
 use lib.ListN.{length}
-use lib.Seq.{length-take-le}
 use Rattle.command.specs.Lines.{ReadyState}
 use borrow.Author.Needs.{needs}
 use native.Mathlib.Omega.{arith}
@@ -37,31 +36,11 @@ loop-again c =
     let r = c .before .before .before .before in
     (r .read-some .ensures, r .read-some .kept .1 .0 ∙ r .before .before .before .loop .inv .1)
 
-finish-requires : tie.Need-finish-requires Inv-loop μ-loop
-finish-requires c κs =
-    let l = c .before .before in
-    (l .loop .inv .0, omega (arith, l .before .before .before .pre, l .loop .inv .1))
-
-slice-reshare-prefix-write-all : tie.Need-slice-reshare-prefix-write-all Inv-loop μ-loop
-slice-reshare-prefix-write-all c =
-    let f = c .before .before in
-    omega (arith, f .finish .ensures .1 .1, f .finish .kept .1 .0)
-
-slice-aggregate-write-all : tie.Need-slice-aggregate-write-all Inv-loop μ-loop
-slice-aggregate-write-all c =
-    let f = c .before .before .before in
-    sym (length-take-le (f .finish .result) (f .finish .last .1 .0) (omega (arith, f .finish .ensures .1 .1, f .finish .kept .1 .0)))
-
-write-all-requires : tie.Need-write-all-requires Inv-loop μ-loop
-write-all-requires c κs = search needs
-
 same-length : tie.Need-same-length Inv-loop μ-loop
-same-length c =
-    let f = c .before .before .before .before in
-    f .finish .kept .1 .0 ∙ f .before .before .before .loop .inv .1
+same-length c = c .before .loop .inv .1
 
 returns : tie.Need-returns Inv-loop μ-loop
-returns c = search needs
+returns c = c .before .loop .inv .0
 
 pub run-spec : {M : Type 1} → statement M
 run-spec =
@@ -75,9 +54,5 @@ run-spec =
     turns-left-requires
     loop-less
     loop-again
-    finish-requires
-    slice-reshare-prefix-write-all
-    slice-aggregate-write-all
-    write-all-requires
     same-length
     returns)

@@ -39,24 +39,31 @@ slice-aggregate-write-all c =
 write-all-requires : tie.Need-write-all-requires Inv-loop μ-loop
 write-all-requires c κs = search needs
 
+same-length : tie.Need-same-length Inv-loop μ-loop
+same-length c =
+    let p = c .before .before .before .before .before .before in
+    p .serve .kept .1 .1 .1 .0 ∙ p .before .before .before .loop .inv .1
+
+returns : tie.Need-returns Inv-loop μ-loop
+returns c = c .before .before .before .before .before .before .serve .ensures .1
+
 loop-less : tie.Need-loop-less Inv-loop μ-loop
 loop-less c =
-    let p = c .before .before .before .before .before in
+    let p = c .before .before .before .before .before .before in
     let l = p .before .before .before in
     let lt = p .before .before .loop-test .taken in
     omega (arith, lt, p .serve .ensures .0 .next, served-further (l .loop .state) (l .loop .at) (now (l .before .before .before .args .chunk)) lt)
 
 loop-again : tie.Need-loop-again Inv-loop μ-loop
 loop-again c =
-    let p = c .before .before .before .before .before in
-    let l = p .before .before .before in
-    (p .serve .ensures .1, p .serve .kept .1 .1 .1 .0 ∙ l .loop .inv .1)
+    let p = c .before .before .before .before .before .before in
+    (p .serve .ensures .1, p .serve .kept .1 .1 .1 .0 ∙ p .before .before .before .loop .inv .1)
 
-same-length : tie.Need-same-length Inv-loop μ-loop
-same-length c = c .before .loop .inv .1
+same-length-2 : tie.Need-same-length-2 Inv-loop μ-loop
+same-length-2 c = c .before .loop .inv .1
 
-returns : tie.Need-returns Inv-loop μ-loop
-returns c = c .before .loop .inv .0
+returns-2 : tie.Need-returns-2 Inv-loop μ-loop
+returns-2 c = c .before .loop .inv .0
 
 pub serve-all-spec : {M : Type 1} → statement M
 serve-all-spec =
@@ -69,7 +76,9 @@ serve-all-spec =
     slice-reshare-prefix-write-all
     slice-aggregate-write-all
     write-all-requires
+    same-length
+    returns
     loop-less
     loop-again
-    same-length
-    returns)
+    same-length-2
+    returns-2)
