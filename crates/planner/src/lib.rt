@@ -10,13 +10,16 @@ use sweep::Tasks;
 use sweep::util::Placed;
 use time_table::Table;
 
-// A plan: the capacity, the tasks by id, and their time-table, which is live or stale. A stale table
-// has no rows.
+// A plan: the time-table, the tasks by id, the capacity, and whether the table is live or stale. A
+// stale table has no rows.
+//
+// Here and in what holds a table, a plan or rows, the large field comes first: the compiler makes fewer
+// copies of such a struct than of one that starts with a small field.
 pub struct Plan {
-    pub(crate) capacity: u32,
-    pub(crate) tasks: Tasks,
-    pub(crate) live: bool,
     pub(crate) table: Table,
+    pub(crate) tasks: Tasks,
+    pub(crate) capacity: u32,
+    pub(crate) live: bool,
 }
 
 impl Plan {
@@ -83,19 +86,19 @@ pub enum Answer {
     Refused(Refusal),
 }
 
-// What an update leads to: the answer, the row that is too high, if one is, and the plan afterwards.
+// What an update leads to: the plan afterwards, the answer, and the row that is too high, if one is.
 pub struct Updated {
+    pub plan: Plan,
     pub answer: Answer,
     pub row: RowRecord,
-    pub plan: Plan,
 }
 
 // What a load leads to: the same, and for each input job its id or that it was dropped.
 pub struct Loaded {
+    pub plan: Plan,
     pub answer: Answer,
     pub row: RowRecord,
     pub placed: [Placed; 32],
-    pub plan: Plan,
 }
 
 // What a question for the first fit finds.
@@ -107,7 +110,7 @@ pub enum FirstFit {
 
 // The rows of a live table, in `rows` up to `count`; or a refusal and no rows.
 pub struct Rows {
-    pub answer: Checked,
     pub rows: [RowRecord; 128],
     pub count: usize,
+    pub answer: Checked,
 }

@@ -80,25 +80,25 @@ pub(crate) fn swept_plan(capacity: u32, tasks: Tasks) -> Updated
     let table = swept.table;
     if swept.overloaded {
         return Updated {
+            plan: Plan {
+                table,
+                tasks,
+                capacity,
+                live: false,
+            },
             answer: Answer::Overloaded,
             row: records::record_of(swept.row),
-            plan: Plan {
-                capacity,
-                tasks,
-                live: false,
-                table,
-            },
         };
     }
     Updated {
+        plan: Plan {
+            table,
+            tasks,
+            capacity,
+            live: true,
+        },
         answer: Answer::Fits,
         row: records::no_record(),
-        plan: Plan {
-            capacity,
-            tasks,
-            live: true,
-            table,
-        },
     }
 }
 
@@ -111,14 +111,14 @@ pub(crate) fn accepted_load(jobs: Jobs, capacity: i32) -> Loaded
     let created = create_tasks(tasks_of(jobs));
     let placed = created.placed;
     let updated = swept_plan(border::amount_of(capacity), created.tasks);
+    let plan = updated.plan;
     let answer = updated.answer;
     let row = updated.row;
-    let plan = updated.plan;
     Loaded {
+        plan,
         answer,
         row,
         placed,
-        plan,
     }
 }
 
@@ -128,10 +128,10 @@ pub(crate) fn refused_load(plan: Plan, why: Refusal) -> Loaded
 {
     let dropped = Placed { kept: false, id: 0 };
     Loaded {
+        plan,
         answer: Answer::Refused(why),
         row: records::no_record(),
         placed: [dropped; 32],
-        plan,
     }
 }
 
@@ -142,10 +142,10 @@ impl Plan {
         ensures { λ r. ⌜ Sound r ⌝ }
     {
         Plan {
-            capacity: 0,
-            tasks: Tasks::empty(),
-            live: true,
             table: Table::empty(),
+            tasks: Tasks::empty(),
+            capacity: 0,
+            live: true,
         }
     }
 

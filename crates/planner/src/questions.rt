@@ -59,9 +59,9 @@ impl Plan {
         let mut rows = [none; 128];
         if !self.live {
             return Rows {
-                answer: Checked::Refused(Refusal::Stale),
                 rows,
                 count: 0,
+                answer: Checked::Refused(Refusal::Stale),
             };
         }
         let table = self.table;
@@ -73,9 +73,9 @@ impl Plan {
             i += 1;
         }
         Rows {
-            answer: Checked::Accepted,
             rows,
             count: n,
+            answer: Checked::Accepted,
         }
     }
 }

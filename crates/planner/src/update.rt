@@ -36,9 +36,9 @@ pub(crate) fn refused_update(plan: Plan, why: Refusal) -> Updated
     ensures { λ r. ⌜ r ≡ refusedUpdate plan why ⌝ }
 {
     Updated {
+        plan,
         answer: Answer::Refused(why),
         row: records::no_record(),
-        plan,
     }
 }
 
@@ -60,22 +60,22 @@ pub(crate) fn live_plan(capacity: u32, tasks: Tasks, table: Table) -> Updated
 {
     let conflict = find_conflicting_profile(table, capacity);
     let plan = Plan {
-        capacity,
-        tasks,
-        live: true,
         table,
+        tasks,
+        capacity,
+        live: true,
     };
     if conflict.found {
         return Updated {
+            plan,
             answer: Answer::Overloaded,
             row: records::record_of(conflict.row),
-            plan,
         };
     }
     Updated {
+        plan,
         answer: Answer::Fits,
         row: records::no_record(),
-        plan,
     }
 }
 

@@ -66,13 +66,13 @@ fn load(plan: Plan, jobs: Jobs, capacity: i32) -> Updated
     ensures { λ r. ⌜ Sound (r .plan) ⌝ }
 {
     let loaded = plan.load(jobs, capacity);
+    let after = loaded.plan;
     let answer = loaded.answer;
     let row = loaded.row;
-    let after = loaded.plan;
     Updated {
+        plan: after,
         answer,
         row,
-        plan: after,
     }
 }
 

@@ -40,10 +40,10 @@ pub struct Table {
     pub count: usize,
 }
 
-// A table after an edit; or `over`, and the table as it was.
+// A table after an edit; or the table as it was, and `over`.
 pub struct Edited {
-    pub over: bool,
     pub table: Table,
+    pub over: bool,
 }
 
 impl Row {

@@ -148,8 +148,8 @@ module _ {M : Type 1} (𝓤 : URA M) (H : Heap 𝓤) (A : Atoms 𝓤) (W : Given
         -- [what the result owns; the plan's cell (1); what it owned; the open borrow; obs; auth; the jobs' and the capacity's; _5 (7); …; room for _4 (9); …; _3 (11); …; _2 (13); …; _1 (15); …; room for _0 (17); …]
         land ! (from ! (stop !)) (init ! 9 refl (LL.lawful U.the-type U′.the-laws 𝓤 H A W .typed r _ is .0)) $
         rewrite ! 9 (λ (u : Val). ‵ (fat fullShare U′.mir l₄ 0 u)) (ap only (LL.tells U.the-type U′.the-laws r _ is)) refl $
-        assigns ! (of-opd ! (load ! (from ! (fld ! refl (stop !))) (look-in ! 9 (sub ! 3 refl (whole !))))) (from ! (hop ! (look ! 15 refl) (stop !))) (store-raw ! 1 refl (LL.lawful T.the-type T′.the-laws 𝓤 H A W .typed (r .plan) _ (inner r w is) .0)) $
-        assigns ! (agg ! (and-then ! (load ! (from ! (fld ! refl (stop !))) (look-in ! 9 (sub ! 0 refl (whole !)))) (and-then ! (load ! (from ! (fld ! refl (stop !))) (look-in ! 9 (sub ! 1 refl (whole !)))) (and-then ! (load ! (from ! (fld ! refl (stop !))) (look-in ! 9 (sub ! 2 refl (whole !)))) (no-more !))))) (from ! (stop !)) (init ! 17 refl (LL.lawful N.the-type N′.the-laws 𝓤 H A W .typed (placing r) _ (inner-n r w is) .0)) $
+        assigns ! (of-opd ! (load ! (from ! (fld ! refl (stop !))) (look-in ! 9 (sub ! 0 refl (whole !))))) (from ! (hop ! (look ! 15 refl) (stop !))) (store-raw ! 1 refl (LL.lawful T.the-type T′.the-laws 𝓤 H A W .typed (r .plan) _ (inner r w is) .0)) $
+        assigns ! (agg ! (and-then ! (load ! (from ! (fld ! refl (stop !))) (look-in ! 9 (sub ! 1 refl (whole !)))) (and-then ! (load ! (from ! (fld ! refl (stop !))) (look-in ! 9 (sub ! 2 refl (whole !)))) (and-then ! (load ! (from ! (fld ! refl (stop !))) (look-in ! 9 (sub ! 3 refl (whole !)))) (no-more !))))) (from ! (stop !)) (init ! 17 refl (LL.lawful N.the-type N′.the-laws 𝓤 H A W .typed (placing r) _ (inner-n r w is) .0)) $
         -- the borrow is closed at the plan in the result
         drop ! $ owned ! T.the-row (Is T.the-row) (LL.makes T.the-type T′.the-plain 𝓤 H A) (r .plan) _ (inner r w is) $ move ! (1 ∷ 0 ∷ 3 ∷ 4 ∷ 5 ∷ []) $ closes ! tt T.the-row (r .plan) (mach (r .plan) ∷ []) b o $
         -- [obs; the borrow; the token; what it owned; the jobs' and the capacity's; _5 (5); …; _4 (7); …; _3 (9); …; _2 (11); …; _1 (13); …; _0 (15); …]
@@ -158,10 +158,10 @@ module _ {M : Type 1} (𝓤 : URA M) (H : Heap 𝓤) (A : Atoms 𝓤) (W : Given
         keep ! (0 ∷ 1 ∷ 2 ∷ []) $ by ! (exits r eq sound (inner-n r w is)))))))))))))))
       where
         inner : (r : Loaded) (w : Val) → Is U.the-row r (w ∷ []) → Is T.the-row (r .plan) (mach (r .plan) ∷ [])
-        inner r w is = LL.owed U.the-type U′.the-laws r _ is .1 .1 .1 .0
+        inner r w is = LL.owed U.the-type U′.the-laws r _ is .0
 
         inner-n : (r : Loaded) (w : Val) → Is U.the-row r (w ∷ []) → Is N.the-row (placing r) (mach-n (placing r) ∷ [])
-        inner-n r w is = LL.owes N.the-type N′.the-laws (placing r) (LL.owed U.the-type U′.the-laws r _ is .0, (LL.owed U.the-type U′.the-laws r _ is .1 .0, (LL.owed U.the-type U′.the-laws r _ is .1 .1 .0, tt)))
+        inner-n r w is = LL.owes N.the-type N′.the-laws (placing r) (LL.owed U.the-type U′.the-laws r _ is .1 .0, (LL.owed U.the-type U′.the-laws r _ is .1 .1 .0, (LL.owed U.the-type U′.the-laws r _ is .1 .1 .1 .0, tt)))
 
 module _ {M : Type 1} (𝓤 : URA M) (H : Heap 𝓤) (A : Atoms 𝓤) (W : Given 𝓤 H A) (at-mem : Memory → SProp 𝓤) (run : Routine → Fun 𝓤) where
   self-walks : (C : Calls 𝓤 H) (Λ : Loops 𝓤 H) → FmC 𝓤 H (W .laws) C → Triple 𝓤 (C #callee) (Upd 𝓤 H A at-mem run) → Walks 𝓤 H A self.ended stayed (WpFn 𝓤 H C Λ code.function) (self.clauses 𝓤 H A at-mem run)

@@ -25,7 +25,7 @@ abbrev μ-loop : tie.MeasureT-loop
 μ-loop answers₀ written shown next₀ count i₀ answers next i = count - i
 
 room : (c : tie.Start Inv-loop μ-loop) → length (c .args .t3 .rows) ≡ 128
-room c = simp length-map at (c .good .1 .1 .0 .1 .1 .1 .0 .1 .0 .1)
+room c = simp length-map at (c .good .1 .1 .0 .1 .1 .0 .1 .0 .1)
 
 loop-holds : tie.Need-loop-holds Inv-loop μ-loop
 unfolding puts each
