@@ -4,7 +4,6 @@ ghost use mathlib.Core.List.{[], _∷_};
 ghost use Prim.Native.Nat.{_+_, _≤_};
 ghost use lib.IntN.{natAbs};
 ghost use lib.ListN.{length};
-ghost use Rattle.planner.specs.Refusals.{numberOf};
 ghost use Rattle.command.specs.Decimal.{decimal, signedText};
 ghost use Rattle.command.specs.Text.{spaced, letterText, countText, refusalText, overloadText, answerText, startText, fitText, idsText, rowText, rowsText, tableText, idsOf, heldIds, rowsOf, Shown, longest};
 ghost use Rattle.command.specs.Written.{Room, Written};
@@ -95,31 +94,12 @@ pub(crate) fn put_count(out: &mut [u8], at: usize, letter: u8, n: u32) -> usize
     put_byte(out, next, b'\n')
 }
 
-// Document 01's number of a refusal.
-pub(crate) fn number_of(why: Refusal) -> u32
-    ensures { λ r. ⌜ r ≡ numberOf why ⌝ }
-{
-    match why {
-        Refusal::TooManyJobs => 1,
-        Refusal::CapacityOutOfRange => 2,
-        Refusal::BoundOutOfRange => 3,
-        Refusal::BoundsCrossed => 4,
-        Refusal::DurationOutOfRange => 5,
-        Refusal::UsageOutOfRange => 6,
-        Refusal::UnknownTask => 7,
-        Refusal::TooManyRows => 8,
-        Refusal::Stale => 9,
-        Refusal::ShortSlice => 10,
-        Refusal::Unreadable => 11,
-    }
-}
-
 // `R` and the number of a refusal.
 pub(crate) fn put_refusal(out: &mut [u8], at: usize, why: Refusal) -> usize
     requires { ⌜ at + 64 ≤ length (now out) ⌝ }
     ensures { λ r. ⌜ Written (now (out .entry)) at (refusalText why) (now (out .exit)) r ⌝ }
 {
-    put_count(out, at, b'R', number_of(why))
+    put_count(out, at, b'R', why.number())
 }
 
 // `O` with start, end and height.

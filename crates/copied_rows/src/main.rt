@@ -7,7 +7,6 @@ use planner::Checked;
 use planner::Job;
 use planner::Jobs;
 use planner::Plan;
-use planner::Refusal;
 use planner::RowRecord;
 
 // Writes a number after a space.
@@ -29,7 +28,7 @@ fn show(copied: Copied, first: u64, second: u64, third: u64) {
         Checked::Refused(why) => {
             let letter = [b'R'];
             io::write_all(1, &letter);
-            number(number_of(why));
+            number(why.number() as u64);
         }
     }
     number(first);
@@ -37,15 +36,6 @@ fn show(copied: Copied, first: u64, second: u64, third: u64) {
     number(third);
     let end = [b'\n'];
     io::write_all(1, &end);
-}
-
-// The number of a copy's refusal.
-fn number_of(why: Refusal) -> u64 {
-    match why {
-        Refusal::Stale => 9,
-        Refusal::ShortSlice => 10,
-        _ => 0,
-    }
 }
 
 // Writes what three places hold, and what the copy to them answered.

@@ -6,7 +6,6 @@ use lent::controller::step;
 use planner::Answer;
 use planner::Job;
 use planner::Jobs;
-use planner::Refusal;
 
 // Writes a letter and a number.
 fn line(letter: u8, n: u64) {
@@ -26,24 +25,7 @@ fn show(controller: Controller) {
     match answer {
         Answer::Fits => line(b'F', 0),
         Answer::Overloaded => line(b'O', row.height as u64),
-        Answer::Refused(why) => line(b'R', number_of(why)),
-    }
-}
-
-// A refusal's number.
-fn number_of(why: Refusal) -> u64 {
-    match why {
-        Refusal::TooManyJobs => 1,
-        Refusal::CapacityOutOfRange => 2,
-        Refusal::BoundOutOfRange => 3,
-        Refusal::BoundsCrossed => 4,
-        Refusal::DurationOutOfRange => 5,
-        Refusal::UsageOutOfRange => 6,
-        Refusal::UnknownTask => 7,
-        Refusal::TooManyRows => 8,
-        Refusal::Stale => 9,
-        Refusal::ShortSlice => 10,
-        Refusal::Unreadable => 11,
+        Answer::Refused(why) => line(b'R', why.number() as u64),
     }
 }
 

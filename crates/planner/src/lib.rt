@@ -6,6 +6,8 @@ pub mod questions;
 mod records;
 pub mod update;
 
+ghost use mathlib.Core.Path.{_≡_};
+ghost use Rattle.planner.specs.Refusals.{numberOf};
 use sweep::Tasks;
 use sweep::util::Placed;
 use time_table::Table;
@@ -58,7 +60,7 @@ pub struct RowRecord {
     pub count: usize,
 }
 
-// Why a call is refused, in the order of document 01's numbers, from 1 on.
+// Why a call is refused.
 pub enum Refusal {
     TooManyJobs,
     CapacityOutOfRange,
@@ -71,6 +73,27 @@ pub enum Refusal {
     Stale,
     ShortSlice,
     Unreadable,
+}
+
+impl Refusal {
+    // Document 01's number of a refusal.
+    pub fn number(self) -> u32
+        ensures { λ r. ⌜ r ≡ numberOf self ⌝ }
+    {
+        match self {
+            Refusal::TooManyJobs => 1,
+            Refusal::CapacityOutOfRange => 2,
+            Refusal::BoundOutOfRange => 3,
+            Refusal::BoundsCrossed => 4,
+            Refusal::DurationOutOfRange => 5,
+            Refusal::UsageOutOfRange => 6,
+            Refusal::UnknownTask => 7,
+            Refusal::TooManyRows => 8,
+            Refusal::Stale => 9,
+            Refusal::ShortSlice => 10,
+            Refusal::Unreadable => 11,
+        }
+    }
 }
 
 // What a check finds.

@@ -2,9 +2,7 @@
 ghost use mathlib.Core.Path.{_≡_};
 ghost use mathlib.Core.List.{[], _∷_, map};
 ghost use Prim.Native.Nat.{_≤_};
-ghost use lib.IntN.{pos};
 ghost use lib.ListN.{take};
-ghost use Rattle.planner.specs.Refusals.{numberOf};
 ghost use Rattle.planner.specs.Sound.{Sound};
 ghost use Rattle.planner.specs.Questions.{rowsShown};
 ghost use Rattle.script.specs.Numbers.{signedOf, refusalNumbers, rowNumbers, each, rowsNumbers, answerNumbers, fitNumbers, keepNumbers, askNumbers, Shown};
@@ -26,25 +24,6 @@ fn signed(amount: u64) -> i32
         return amount as i32;
     }
     2147483647
-}
-
-// Document 01's number of a refusal.
-fn number_of(why: Refusal) -> i32
-    ensures { λ r. ⌜ r ≡ pos (numberOf why) ⌝ }
-{
-    match why {
-        Refusal::TooManyJobs => 1,
-        Refusal::CapacityOutOfRange => 2,
-        Refusal::BoundOutOfRange => 3,
-        Refusal::BoundsCrossed => 4,
-        Refusal::DurationOutOfRange => 5,
-        Refusal::UsageOutOfRange => 6,
-        Refusal::UnknownTask => 7,
-        Refusal::TooManyRows => 8,
-        Refusal::Stale => 9,
-        Refusal::ShortSlice => 10,
-        Refusal::Unreadable => 11,
-    }
 }
 
 // Writes a number behind so many others, if there is room, and returns how many there are then.
@@ -121,7 +100,7 @@ fn put_each(answers: &mut [i32], written: usize, shown: Rows) -> usize
 fn put_refusal(answers: &mut [i32], written: usize, why: Refusal) -> usize
     ensures { λ r. ⌜ pageOf (now (answers .exit)) r ≡ puts (pageOf (now (answers .entry)) written) (refusalNumbers why) ⌝ }
 {
-    put_two(answers, written, 2, number_of(why))
+    put_two(answers, written, 2, why.number() as i32)
 }
 
 // Writes the rows of a plan, or why they are refused.

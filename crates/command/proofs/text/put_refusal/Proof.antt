@@ -8,12 +8,12 @@ use borrow.Author.Needs.{needs}
 use Rattle.command.proofs.text.put_refusal.Statement.{statement}
 use Rattle.command.proofs.text.put_refusal.Tie as tie
 
-number-of-requires : tie.Need-number-of-requires
-number-of-requires c κs = search needs
+number-requires : tie.Need-number-requires
+number-requires c κs = search needs
 
 put-count-requires : tie.Need-put-count-requires
 put-count-requires c κs =
-    omega (arith, c .before .before .before .pre, count-length 82 (c .number-of .result), decimal-short (c .number-of .result) (c .number-of .ok))
+    omega (arith, c .before .before .before .pre, count-length 82 (c .number .result), decimal-short (c .number .result) (c .number .ok))
 
 same-length : tie.Need-same-length
 same-length c = search needs
@@ -22,7 +22,7 @@ returns : tie.Need-returns
 unfolding refusalText
 returns c =
     let p = c .before .before in
-    rw (p .before .number-of .ensures) at (p .put-count .ensures)
+    rw (p .before .number .ensures) at (p .put-count .ensures)
 
 pub put-refusal-spec : {M : Type 1} → statement M
-put-refusal-spec = tie.close (tie.spec number-of-requires put-count-requires same-length returns)
+put-refusal-spec = tie.close (tie.spec number-requires put-count-requires same-length returns)
