@@ -2,13 +2,11 @@
 -- Assumes nothing.
 use mathlib.Core.Path.{_≡_, refl, subst}
 use mathlib.Core.List.{List, []}
-use Prim.Native.Nat.{ℕ, _+_, _≤_, _<_}
+use Prim.Native.Nat.{ℕ, _≤_, _<_}
 use native.Mathlib.Omega.{arith}
 use borrow.Author.Tests.{lt-ltb, le-ltb}
 use lib.IntN.{ℤ}
-use lib.ListN.{length, set}
 use Rattle.time_table.specs.Held.{Held}
-use Rattle.time_table.proofs.Held.{held-push}
 use Rattle.planner.specs.declared.Job.{Job}
 use Rattle.planner.specs.declared.Jobs.{Jobs}
 use Rattle.planner.specs.declared.Loaded.{Loaded}
@@ -16,14 +14,16 @@ use Rattle.planner.specs.declared.Updated.{Updated}
 use Rattle.planner.specs.declared.FirstFit.{FirstFit}
 use Rattle.planner.specs.declared.Rows.{Rows}
 use Rattle.planner.specs.declared.Refusal.the-variants.{TooManyJobs}
-use Rattle.planner.specs.Loads.{jobsOf, loaded}
+use Rattle.planner.specs.Given.{noJob}
+use Rattle.planner.specs.Kept.{jobsWith, keeping}
+use Rattle.planner.specs.Loads.{loaded}
 use Rattle.planner.specs.Updates.{updated}
 use Rattle.planner.specs.Questions.{fitOf, rowsShown}
 use Rattle.command.specs.declared.Session.{Session}
 use Rattle.command.specs.declared.Answered.{Answered}
 use Rattle.command.specs.Text.{refusalText, answerText, fitText, tableText}
 use Rattle.command.specs.Written.{Written}
-use Rattle.command.specs.Sessions.{noJob, jobsWith, Outcome, Gives, Answers, kept, loads, updates, asksFit, asksRows}
+use Rattle.command.specs.Sessions.{Outcome, Gives, Answers, kept, loads, updates, asksFit, asksRows}
 use Rattle.command.proofs.Writing.{written-none, written-front}
 
 module _ {out after : List ℕ} {n : ℕ} (s : Session) where
@@ -51,17 +51,12 @@ module _ {out after : List ℕ} {n : ℕ} (s : Session) where
   pub rows-given : (shown : Rows) → shown ≡ rowsShown (s .plan) → Written out 0 (tableText shown) after n → Gives (asksRows s) out after (record { session = s; len = n })
   rows-given shown e w = record { session = refl; text = subst (λ (x : Rows). Written out 0 (tableText x) after n) e w }
 
-  pub kept-refused : (job : Job) → Held 32 noJob (s .jobs .list) (s .jobs .count) (jobsOf (s .jobs)) → 32 ≤ s .jobs .count
-      → Written out 0 (refusalText TooManyJobs) after n → Gives (kept s job) out after (record { session = s; len = n })
-  kept-refused job h full w = simp (le-ltb (length (jobsOf (s .jobs))) 32 (omega (arith, h .counts))) (record { session = refl; text = w })
+  pub kept-refused : (job : Job) → 32 ≤ s .jobs .count → Written out 0 (refusalText TooManyJobs) after n → Gives (kept s job) out after (record { session = s; len = n })
+  kept-refused job full w = simp (le-ltb (s .jobs .count) 32 full) (record { session = refl; text = w })
 
 module _ {out : List ℕ} (s : Session) where
-  pub kept-more : (job : Job) → Held 32 noJob (s .jobs .list) (s .jobs .count) (jobsOf (s .jobs)) → s .jobs .count < 32
-      → Gives (kept s job) out out (record { session = record { plan = s .plan; jobs = record { list = set (s .jobs .list) (s .jobs .count) job; count = s .jobs .count + 1 } }; len = 0 })
-  kept-more job h room =
-      let more = held-push h job room in
-      simp (lt-ltb (length (jobsOf (s .jobs))) 32 (omega (arith, h .counts)))
-      (record { session = λ i. record { plan = s .plan; jobs = record { list = more .is i; count = more .counts i } }; text = written-none out 0 (omega arith) })
+  pub kept-more : (job : Job) (jobs : Jobs) → s .jobs .count < 32 → jobs ≡ keeping (s .jobs) job → Gives (kept s job) out out (record { session = record { plan = s .plan; jobs = jobs }; len = 0 })
+  kept-more job jobs room e = simp (lt-ltb (s .jobs .count) 32 room) (record { session = λ i. record { plan = s .plan; jobs = e i }; text = written-none out 0 (omega arith) })
 
 pub no-jobs-held : Held 32 noJob (jobsWith [] .list) 0 []
 no-jobs-held = record { is = refl; counts = refl; fits = omega arith }

@@ -1,14 +1,13 @@
 -- A session: what each command does to it and prints.
 use mathlib.Core.Path.{_≡_}
 use mathlib.Core.Bool.{cond}
-use mathlib.Core.List.{List, [], _∷_, _++_}
+use mathlib.Core.List.{List, [], _++_}
 use Prim.Native.Nat.{ℕ, _≤_}
 use lib.Dec.{ltb}
-use lib.IntN.{ℤ, pos}
+use lib.IntN.{ℤ}
 use lib.ListN.{length, drop}
-use Rattle.time_table.specs.Held.{pad, Held}
+use Rattle.time_table.specs.Held.{Held}
 use Rattle.planner.specs.declared.Job.{Job}
-use Rattle.planner.specs.declared.Jobs.{Jobs}
 use Rattle.planner.specs.declared.Plan.{Plan}
 use Rattle.planner.specs.declared.Answer.{Answer}
 use Rattle.planner.specs.declared.RowRecord.{RowRecord}
@@ -16,6 +15,8 @@ use Rattle.planner.specs.declared.Refusal.{Refusal}
 use Rattle.planner.specs.declared.Refusal.the-variants.{TooManyJobs}
 use Rattle.planner.specs.Sound.{Sound}
 use Rattle.planner.specs.Answers.{freshPlan}
+use Rattle.planner.specs.Given.{noJob}
+use Rattle.planner.specs.Kept.{jobsWith, keeping}
 use Rattle.planner.specs.Loads.{jobsOf, loaded}
 use Rattle.planner.specs.Updates.{updated}
 use Rattle.planner.specs.Questions.{fitOf, rowsShown}
@@ -25,13 +26,6 @@ use Rattle.command.specs.declared.Command.{Command}
 use Rattle.command.specs.Grammar.{commandOf}
 use Rattle.command.specs.Text.{refusalText, answerText, fitText, tableText}
 use Rattle.command.specs.Written.{Written}
-
--- the struct of some kept jobs, whose unused places are 0
-abbrev pub noJob : Job
-noJob = record { earliest = pos 0; latest = pos 0; duration = pos 0; usage = pos 0 }
-
-abbrev pub jobsWith : List Job → Jobs
-jobsWith l = record { list = pad 32 noJob l; count = length l }
 
 -- a session whose plan is sound and whose jobs are at most 32; only this crate makes sessions, and each that it hands out is ready
 pub record Ready (s : Session) : Type 0 where
@@ -52,8 +46,8 @@ refused s why = record { session = s; text = refusalText why }
 -- `J` keeps a job and prints nothing; a 33rd is refused and isn't kept
 abbrev pub kept : Session → Job → Outcome
 kept s job =
-    cond (ltb (length (jobsOf (s .jobs))) 32)
-    (record { session = record { plan = s .plan; jobs = jobsWith (jobsOf (s .jobs) ++ job ∷ []) }; text = [] })
+    cond (ltb (s .jobs .count) 32)
+    (record { session = record { plan = s .plan; jobs = keeping (s .jobs) job }; text = [] })
     (refused s TooManyJobs)
 
 -- `L` loads the kept jobs and, accepted or not, empties the list

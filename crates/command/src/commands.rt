@@ -1,11 +1,10 @@
 // A session: what each command does to it and prints.
 ghost use mathlib.Core.Path.{_≡_};
-ghost use mathlib.Core.List.{[]};
 ghost use Prim.Native.Nat.{_≤_};
 ghost use lib.ListN.{length};
 ghost use Rattle.planner.specs.declared.Refusal.the-variants.{Unreadable};
 ghost use Rattle.command.specs.Text.{longest};
-ghost use Rattle.command.specs.Sessions.{Ready, Gives, jobsWith, freshSession, refused, kept, loads, updates, asksFit, asksRows, outcome, answered, Answers};
+ghost use Rattle.command.specs.Sessions.{Ready, Gives, freshSession, refused, kept, loads, updates, asksFit, asksRows, outcome, answered, Answers};
 use crate::Answered;
 use crate::Command;
 use crate::Session;
@@ -16,22 +15,6 @@ use planner::Jobs;
 use planner::Plan;
 use planner::Refusal;
 
-// No jobs.
-pub(crate) fn no_jobs() -> Jobs
-    ensures { λ r. ⌜ r ≡ jobsWith [] ⌝ }
-{
-    let none = Job {
-        earliest: 0,
-        latest: 0,
-        duration: 0,
-        usage: 0,
-    };
-    Jobs {
-        list: [none; 32],
-        count: 0,
-    }
-}
-
 // A job is kept for the next load, unless 32 are.
 pub(crate) fn keep(session: Session, job: Job, out: &mut [u8]) -> Answered
     requires { ⌜ Ready session ⌝ }
@@ -39,15 +22,12 @@ pub(crate) fn keep(session: Session, job: Job, out: &mut [u8]) -> Answered
     ensures { λ r. ⌜ Gives (kept session job) (now (out .entry)) (now (out .exit)) r ⌝ }
     ensures { λ r. ⌜ Ready (r .session) ⌝ }
 {
-    let mut jobs = session.jobs;
-    let plan = session.plan;
-    let n = jobs.count;
-    if Plan::JOBS <= n {
+    if Plan::JOBS <= session.jobs.count {
         let len = text::put_refusal(out, 0, Refusal::TooManyJobs);
         return Answered { session, len };
     }
-    jobs.list[n] = job;
-    jobs.count = n + 1;
+    let plan = session.plan;
+    let jobs = session.jobs.keep(job);
     Answered {
         session: Session { plan, jobs },
         len: 0,
@@ -66,7 +46,7 @@ pub(crate) fn load(session: Session, capacity: i32, out: &mut [u8]) -> Answered
     let row = loaded.row;
     let plan = loaded.plan;
     let len = text::put_answer(out, 0, answer, row);
-    let jobs = no_jobs();
+    let jobs = Jobs::empty();
     Answered {
         session: Session { plan, jobs },
         len,
@@ -161,7 +141,7 @@ impl Session {
         ensures { λ r. ⌜ Ready r ⌝ }
     {
         let plan = Plan::fresh();
-        let jobs = no_jobs();
+        let jobs = Jobs::empty();
         Session { plan, jobs }
     }
 

@@ -81,18 +81,16 @@ fn main() {
         count: 0,
     };
     let places = [mark; 3];
-    let nothing = job(0, 0, 0);
-    let mut list = [nothing; 32];
     copy_three(Plan::fresh(), places);
-    list[0] = job(0, 3, 1);
-    let one = Plan::fresh().load(Jobs { list, count: 1 }, 5);
+    let mut jobs = Jobs::empty().keep(job(0, 3, 1));
+    let one = Plan::fresh().load(jobs, 5);
     copy_three(one.plan, places);
-    list[1] = job(1, 1, 1);
-    let three = Plan::fresh().load(Jobs { list, count: 2 }, 5);
+    jobs = jobs.keep(job(1, 1, 1));
+    let three = Plan::fresh().load(jobs, 5);
     copy_three(three.plan, places);
-    list[2] = job(9, 1, 5);
-    let four = Plan::fresh().load(Jobs { list, count: 3 }, 5);
+    jobs = jobs.keep(job(9, 1, 5));
+    let four = Plan::fresh().load(jobs, 5);
     copy_three(four.plan, places);
-    let stale = Plan::fresh().load(Jobs { list, count: 3 }, 4);
+    let stale = Plan::fresh().load(jobs, 4);
     copy_three(stale.plan, places);
 }

@@ -38,10 +38,7 @@ fn main() {
         duration: 4,
         usage: 3,
     };
-    let jobs = Jobs {
-        list: [job; 32],
-        count: 1,
-    };
+    let jobs = Jobs::empty().keep(job);
     let mut kept = begin(Controller::fresh(), jobs, 2);
     show(kept);
     kept = step(kept, 0, 5, 5);

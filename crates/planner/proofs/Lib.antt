@@ -3,6 +3,7 @@ pub mod Ranged
 pub mod Signed
 pub mod Ticks
 pub mod Given
+pub mod Kept
 pub mod Accepted
 pub mod Running
 pub mod InputOrder

@@ -3,13 +3,11 @@
 use mathlib.Core.List.{List, [], _∷_, map}
 use Prim.Native.Nat.{ℕ}
 use lib.IntN.{ℤ, pos, negsuc}
-use lib.ListN.{length, take}
+use lib.ListN.{take}
 use Rattle.time_table.specs.declared.Part.{Part}
-use Rattle.time_table.specs.Held.{pad}
 use Rattle.time_table.specs.Adjustments.{stretch, removedParts, addedParts}
 use Rattle.sweep.specs.Tasks.{partOf}
 use Rattle.planner.specs.declared.Job.{Job}
-use Rattle.planner.specs.declared.Jobs.{Jobs}
 use Rattle.planner.specs.declared.Plan.{Plan}
 use Rattle.planner.specs.declared.RowRecord.{RowRecord}
 use Rattle.planner.specs.declared.Checked.{Checked}
@@ -17,7 +15,7 @@ use Rattle.planner.specs.declared.Answer.{Answer}
 use Rattle.planner.specs.declared.FirstFit.{FirstFit}
 use Rattle.planner.specs.Refusals.{numberOf}
 use Rattle.planner.specs.Instants.{instant, tick}
-use Rattle.planner.specs.Given.{noJob}
+use Rattle.planner.specs.Kept.{jobsWith}
 use Rattle.planner.specs.Answers.{freshPlan}
 use Rattle.planner.specs.Loads.{taskOf, loaded}
 use Rattle.planner.specs.Updates.{updated}
@@ -89,9 +87,6 @@ saidRows Checked.Accepted l = shows (map lineOf l)
 saidRows (Checked.Refused why) l = refused (numberOf why)
 
 -- one call: what it says, and the plan after it
-abbrev pub jobsWith : List Job → Jobs
-jobsWith js = record { list = pad 32 noJob js; count = length js }
-
 unfoldable pub says : Plan → Call → Said
 says plan (load js capacity) = saidAnswer (loaded plan (jobsWith js) capacity .answer) (loaded plan (jobsWith js) capacity .row)
 says plan (update id earliest latest) = saidAnswer (updated plan id earliest latest .answer) (updated plan id earliest latest .row)

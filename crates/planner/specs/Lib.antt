@@ -3,6 +3,7 @@ pub mod Ranges
 pub mod Instants
 pub mod Checks
 pub mod Given
+pub mod Kept
 pub mod Records
 pub mod Sound
 pub mod Answers

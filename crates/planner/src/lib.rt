@@ -7,7 +7,9 @@ mod records;
 pub mod update;
 
 ghost use mathlib.Core.Path.{_≡_};
+ghost use mathlib.Core.List.{[]};
 ghost use Rattle.planner.specs.Refusals.{numberOf};
+ghost use Rattle.planner.specs.Kept.{jobsWith, keeping};
 use sweep::Tasks;
 use sweep::util::Placed;
 use time_table::Table;
@@ -49,6 +51,37 @@ pub struct Job {
 pub struct Jobs {
     pub list: [Job; 32],
     pub count: usize,
+}
+
+impl Jobs {
+    // No jobs.
+    pub fn empty() -> Jobs
+        ensures { λ r. ⌜ r ≡ jobsWith [] ⌝ }
+    {
+        let none = Job {
+            earliest: 0,
+            latest: 0,
+            duration: 0,
+            usage: 0,
+        };
+        Jobs {
+            list: [none; 32],
+            count: 0,
+        }
+    }
+
+    // The jobs with another behind them, if there is room for it.
+    pub fn keep(self, job: Job) -> Jobs
+        ensures { λ r. ⌜ r ≡ keeping self job ⌝ }
+    {
+        let mut more = self;
+        let count = more.count;
+        if count < Plan::JOBS {
+            more.list[count] = job;
+            more.count = count + 1;
+        }
+        more
+    }
 }
 
 // A row as a caller gets it: its instants from `start` to `end`, both in it, its height and its ids.

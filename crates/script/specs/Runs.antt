@@ -6,8 +6,9 @@ use lib.ListN.{length}
 use Rattle.planner.specs.declared.Jobs.{Jobs}
 use Rattle.planner.specs.declared.Plan.{Plan}
 use Rattle.planner.specs.Answers.{freshPlan}
+use Rattle.planner.specs.Kept.{jobsWith}
 use Rattle.script.specs.Commands.{commandOf, argumentsOf}
-use Rattle.script.specs.Sessions.{noJobs, keptAfter, planAfter, said}
+use Rattle.script.specs.Sessions.{keptAfter, planAfter, said}
 
 -- the answers to a script of which the first numbers, so many, belong to the command before
 unfoldable pub answersOf : Plan → Jobs → ℕ → List ℤ → List ℤ
@@ -18,4 +19,4 @@ answersOf plan jobs zero (x ∷ xs) =
     said plan jobs c ++ answersOf (planAfter plan jobs c) (keptAfter jobs c) (argumentsOf c (length xs)) xs
 
 unfoldable pub run : List ℤ → List ℤ
-run script = answersOf freshPlan noJobs 0 script
+run script = answersOf freshPlan (jobsWith []) 0 script

@@ -1,16 +1,10 @@
 -- A session: a plan, and the jobs that are kept for its next load. What a command leads to.
-use mathlib.Core.Bool.{cond}
 use mathlib.Core.List.{List, []}
-use Prim.Native.Nat.{_+_}
-use lib.Dec.{ltb}
 use lib.IntN.{ℤ}
-use lib.ListN.{set}
-use Rattle.time_table.specs.Held.{pad}
-use Rattle.planner.specs.declared.Job.{Job}
 use Rattle.planner.specs.declared.Jobs.{Jobs}
 use Rattle.planner.specs.declared.Plan.{Plan}
 use Rattle.planner.specs.declared.Updated.{Updated}
-use Rattle.planner.specs.Given.{noJob}
+use Rattle.planner.specs.Kept.{jobsWith, keeping}
 use Rattle.planner.specs.History.{withoutPlaces}
 use Rattle.planner.specs.Loads.{loaded}
 use Rattle.planner.specs.Updates.{updated}
@@ -21,17 +15,9 @@ use Rattle.script.specs.declared.Call.the-variants.{Load, Update}
 use Rattle.script.specs.declared.Ask.the-variants.{Keep, FirstFit, Rows, Unreadable}
 use Rattle.script.specs.Numbers.{answerNumbers, askNumbers}
 
--- no jobs
-abbrev pub noJobs : Jobs
-noJobs = record { list = pad 32 noJob []; count = 0 }
-
--- a job is kept behind the others, up to the 32nd
-unfoldable pub keeping : Jobs → Job → Jobs
-keeping jobs job = cond (ltb (jobs .count) 32) (record { list = set (jobs .list) (jobs .count) job; count = jobs .count + 1 }) jobs
-
--- a load, accepted or not, leaves none
+-- the jobs that are kept; a load, accepted or not, leaves none
 abbrev pub keptAfter : Jobs → Command → Jobs
-keptAfter jobs (command.Call (Load capacity)) = noJobs
+keptAfter jobs (command.Call (Load capacity)) = jobsWith []
 keptAfter jobs (command.Call (Update id earliest latest)) = jobs
 keptAfter jobs (command.Ask (Keep job)) = keeping jobs job
 keptAfter jobs (command.Ask (FirstFit id)) = jobs

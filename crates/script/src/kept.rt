@@ -3,43 +3,13 @@ ghost use mathlib.Core.Path.{_≡_};
 ghost use Rattle.planner.specs.Sound.{Sound};
 ghost use Rattle.planner.specs.History.{withoutPlaces};
 ghost use Rattle.planner.specs.Loads.{loaded};
-ghost use Rattle.script.specs.Sessions.{noJobs, keeping, keptAfter, called};
+ghost use Rattle.script.specs.Sessions.{keptAfter, called};
 use crate::Ask;
 use crate::Call;
 use crate::Command;
-use planner::Job;
 use planner::Jobs;
 use planner::Plan;
 use planner::Updated;
-
-// No jobs.
-pub(crate) fn no_jobs() -> Jobs
-    ensures { λ r. ⌜ r ≡ noJobs ⌝ }
-{
-    let none = Job {
-        earliest: 0,
-        latest: 0,
-        duration: 0,
-        usage: 0,
-    };
-    Jobs {
-        list: [none; 32],
-        count: 0,
-    }
-}
-
-// The jobs with another behind them, if there is room for it.
-fn keep(jobs: Jobs, job: Job) -> Jobs
-    ensures { λ r. ⌜ r ≡ keeping jobs job ⌝ }
-{
-    let mut more = jobs;
-    let count = more.count;
-    if count < Plan::JOBS {
-        more.list[count] = job;
-        more.count = count + 1;
-    }
-    more
-}
 
 // The jobs that are kept after a command.
 pub(crate) fn kept(jobs: Jobs, command: Command) -> Jobs
@@ -47,11 +17,11 @@ pub(crate) fn kept(jobs: Jobs, command: Command) -> Jobs
 {
     match command {
         Command::Call(call) => match call {
-            Call::Load(_) => no_jobs(),
+            Call::Load(_) => Jobs::empty(),
             Call::Update(_, _, _) => jobs,
         },
         Command::Ask(ask) => match ask {
-            Ask::Keep(job) => keep(jobs, job),
+            Ask::Keep(job) => jobs.keep(job),
             Ask::FirstFit(_) => jobs,
             Ask::Rows => jobs,
             Ask::Unreadable => jobs,

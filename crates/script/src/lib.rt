@@ -10,6 +10,7 @@ ghost use Prim.Native.Nat.{min};
 ghost use Rattle.script.specs.Runs.{run};
 ghost use Rattle.script.specs.Pages.{laid};
 use planner::Job;
+use planner::Jobs;
 use planner::Plan;
 
 // A command that may change the plan.
@@ -40,7 +41,7 @@ pub extern "C" fn pass_planner_run(script: &[i32], answers: &mut [i32]) -> usize
     ensures { λ r. ⌜ r ≡ min (length (run (now (script .entry)))) (length (now (answers .entry))) ⌝ }
 {
     let mut plan = Plan::fresh();
-    let mut jobs = kept::no_jobs();
+    let mut jobs = Jobs::empty();
     let mut written = 0;
     let mut at = 0;
     while at < script.len() {

@@ -78,12 +78,12 @@ inside c =
 fresh-requires : tie.Need-fresh-requires Inv-loop μ-loop
 fresh-requires c κs = search needs
 
-no-jobs-requires : tie.Need-no-jobs-requires Inv-loop μ-loop
-no-jobs-requires c κs = search needs
+empty-requires : tie.Need-empty-requires Inv-loop μ-loop
+empty-requires c κs = search needs
 
 loop-holds : tie.Need-loop-holds Inv-loop μ-loop
 unfolding run
-loop-holds c = (omega arith, c .before .fresh .ensures .1, refl, rw (c .before .fresh .ensures .0, c .no-jobs .ensures) refl)
+loop-holds c = (omega arith, c .before .fresh .ensures .1, refl, rw (c .before .fresh .ensures .0, c .empty .ensures) refl)
 
 command-at-requires : tie.Need-command-at-requires Inv-loop μ-loop
 command-at-requires c κs = c .loop-test .taken
@@ -161,7 +161,7 @@ pass-planner-run-spec =
     Inv-loop
     μ-loop
     fresh-requires
-    no-jobs-requires
+    empty-requires
     loop-holds
     command-at-requires
     enum-known-command

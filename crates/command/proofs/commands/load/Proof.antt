@@ -15,8 +15,8 @@ load-requires c κs = search needs
 put-answer-requires : tie.Need-put-answer-requires
 put-answer-requires c κs = omega (arith, c .before .before .before .before .before .pre .1)
 
-no-jobs-requires : tie.Need-no-jobs-requires
-no-jobs-requires c κs = search needs
+empty-requires : tie.Need-empty-requires
+empty-requires c κs = search needs
 
 same-length : tie.Need-same-length
 same-length c = search needs
@@ -26,13 +26,13 @@ returns c =
     let p = c .before .before .before in
     let l = p .before .before .before .before in
     let s = l .before .before in (
-      loads-given (s .args .session) (s .args .capacity) (l .load .result) (c .no-jobs .result)
+      loads-given (s .args .session) (s .args .capacity) (l .load .result) (c .empty .result)
           (l .load .ensures .0 ∙ ap (loaded (s .args .session .plan) (s .args .session .jobs)) (toZ-ofZ (s .fits .capacity)))
-          (c .no-jobs .ensures)
+          (c .empty .ensures)
           (p .put-answer .ensures),
-      record { plan = l .load .ensures .1; jobs = rw (c .no-jobs .ensures) no-jobs-held },
+      record { plan = l .load .ensures .1; jobs = rw (c .empty .ensures) no-jobs-held },
     )
 
 pub load-spec : {M : Type 1} → statement M
 load-spec =
-    tie.close (tie.spec load-requires put-answer-requires no-jobs-requires same-length returns)
+    tie.close (tie.spec load-requires put-answer-requires empty-requires same-length returns)

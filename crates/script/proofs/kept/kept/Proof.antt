@@ -10,8 +10,8 @@ enum-known-command c = search needs
 enum-told : tie.Need-enum-told
 enum-told c = search needs
 
-no-jobs-requires : tie.Need-no-jobs-requires
-no-jobs-requires c κs = search needs
+empty-requires : tie.Need-empty-requires
+empty-requires c κs = search needs
 
 enum-told-2 : tie.Need-enum-told-2
 enum-told-2 c = search needs
@@ -60,7 +60,7 @@ kept-spec =
     (tie.spec
     enum-known-command
     enum-told
-    no-jobs-requires
+    empty-requires
     enum-told-2
     enum-known-command-2
     enum-known-ask

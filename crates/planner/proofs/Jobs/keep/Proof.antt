@@ -1,10 +1,10 @@
--- `keep` meets its contract: a job is stored behind the others where there is room.
+-- `Jobs::keep` meets its contract: a job is stored behind the others where there is room.
 -- Assumes nothing.
 use borrow.Author.Tests.{lt-ltb, le-ltb}
-use Rattle.script.specs.Sessions.{keeping}
+use Rattle.planner.specs.Kept.{keeping}
 use borrow.Author.Needs.{needs}
-use Rattle.script.proofs.kept.keep.Statement.{statement}
-use Rattle.script.proofs.kept.keep.Tie as tie
+use Rattle.planner.proofs.Jobs.keep.Statement.{statement}
+use Rattle.planner.proofs.Jobs.keep.Tie as tie
 
 mul-job : tie.Need-mul-job
 mul-job c = search needs
