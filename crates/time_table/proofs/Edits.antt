@@ -2,13 +2,11 @@
 -- Assumes nothing.
 use mathlib.Core.Path.{_≡_, refl, sym, ap, _∙_}
 use mathlib.Core.Bool.{Bool, true, false, true≢false, false≢true}
-use mathlib.Core.Logic.{⊎-elim}
 use mathlib.Core.List.{List, [], _∷_}
 use Prim.Native.Nat.{ℕ, _+_, _≤_, _<_}
 use native.Mathlib.Numerals.{add-one}
 use native.Mathlib.Omega.{arith}
-use borrow.Author.Tests.{lt-ltb, le-ltb, ltb-true, ltb-false}
-use lib.Dec.{ltb}
+use borrow.Author.Tests.{lt-ltb, le-ltb}
 use lib.ListN.{length, drop, getD, drop-of-length-le}
 use lib.Seq.{drop-cons, getD-take, take-append-seam}
 use Rattle.time_table.specs.declared.Row.{Row}
@@ -17,15 +15,14 @@ use Rattle.time_table.specs.declared.Table.{Table}
 use Rattle.time_table.specs.declared.Edited.{Edited}
 use Rattle.time_table.specs.declared.mandatory_part_adjustments.Parts.{Parts}
 use Rattle.time_table.specs.Rows.{rowsOf, tableOf, Clean}
-use Rattle.time_table.specs.Table.{verdict, edited}
+use Rattle.time_table.specs.Table.{verdict}
 use Rattle.time_table.specs.Adjustments.{emptyPart, heldParts, partsIn}
 use Rattle.time_table.specs.Insertion.{insertion, CanInsert}
 use Rattle.time_table.specs.Removal.{removal, CanRemove}
-use Rattle.time_table.specs.Update.{after, overAfter, editedAll, Puts, Takes, Editable}
+use Rattle.time_table.specs.Update.{after, overAfter, Puts, Takes, Editable}
 use Rattle.time_table.proofs.Held.{held-as}
 use Rattle.time_table.proofs.EditRight.{insertion-right, removal-right}
 use Rattle.time_table.proofs.Steps.{can-insert, can-remove}
-use Rattle.time_table.proofs.Sums.{lt-or-le}
 
 -- a table of rows has those rows, and a clean table is that of its rows
 pub rows-of : (l : List Row) → rowsOf (tableOf l) ≡ l
@@ -62,16 +59,6 @@ pub record Fitting (e : Edited) (l : List Row) : Type 0 where
   pub few : length l ≤ 128
   pub is : e .table ≡ tableOf l
 
-pub edit-over : (t : Table) (l : List Row) (e : Edited) → e ≡ edited t l → e .over ≡ true → 128 < length l
-unfolding edited
-edit-over t l e is over = ltb-true 128 (length l) (verdict-over (ltb 128 (length l)) t l e is over)
-
-pub edit-fits : (t : Table) (l : List Row) (e : Edited) → e ≡ edited t l → e .over ≡ false → Fitting e l
-unfolding edited
-edit-fits t l e is fits =
-    let no-over = verdict-fits (ltb 128 (length l)) t l e is fits in
-    record { few = ltb-false 128 (length l) no-over; is = verdict-table (ltb 128 (length l)) t l e is no-over }
-
 module _ (edit : Part → List Row → List Row) where
   pub over-here : (p : Part) (ps : List Part) (rows : List Row) → 128 < length (edit p rows) → overAfter edit (p ∷ ps) rows ≡ true
   unfolding overAfter
@@ -86,12 +73,6 @@ module _ (edit : Part → List Row → List Row) where
     pub rows : after edit ps (rowsOf t) ≡ after edit rest (rowsOf now)
     pub over : overAfter edit ps (rowsOf t) ≡ overAfter edit rest (rowsOf now)
 
-  pub down-over : {ps : List Part} {t now : Table} (p : Part) (rest : List Part) (e : Edited) → Down ps t (p ∷ rest) now → e ≡ edited now (edit p (rowsOf now)) → e .over ≡ true
-      → _≡_ {A = Edited} (record { over = true; table = t }) (editedAll edit ps t)
-  unfolding editedAll
-  down-over {ps} {t} {now} p rest e d is over =
-      rw (d .over, over-here p rest (rowsOf now) (edit-over now (edit p (rowsOf now)) e is over))
-
   pub down-on : {ps : List Part} {t now : Table} (p : Part) (rest : List Part) (e : Edited) → Down ps t (p ∷ rest) now → Fitting e (edit p (rowsOf now)) → Down ps t rest (e .table)
   unfolding after
   down-on {ps} {t} {now} p rest e d f =
@@ -100,10 +81,6 @@ module _ (edit : Part → List Row → List Row) where
         rows = rw (rows-of (edit p (rowsOf now))) (d .rows);
         over = rw (rows-of (edit p (rowsOf now))) (d .over ∙ over-later p rest (rowsOf now) (f .few));
       })
-
-  pub down-all : {ps : List Part} {t now : Table} → Clean now → Down ps t [] now → _≡_ {A = Edited} (record { over = false; table = now }) (editedAll edit ps t)
-  unfolding editedAll after overAfter
-  down-all {ps} {t} {now} clean d = rw (d .over, d .rows, table-self now clean)
 
 -- the next of some parts
 pub part-next : (parts : Parts) (k : ℕ) → heldParts parts (partsIn parts) → k < parts .count

@@ -1,9 +1,8 @@
 -- A list that is kept in the front of an array: what a store at the count, a store before it and a cut at the end make of it.
 -- Assumes nothing.
 use mathlib.Core.Path.{_≡_, sym, ap, _∙_}
-use mathlib.Core.List.{List, [], _∷_, _++_, append-assoc}
+use mathlib.Core.List.{List, [], _∷_, _++_}
 use Prim.Native.Nat.{ℕ, suc, _+_, _-_, _<_}
-use native.Mathlib.Numerals.{add-one}
 use native.Mathlib.Omega.{arith}
 use lib.ListN.{length, take, getD, set, replicate, length-append, length-replicate, length-set, List·getD-append}
 use lib.Seq.{take-at, set-at, set-append-left, take-suc, take-all, length-take-le, append-snoc}
@@ -60,14 +59,3 @@ module _ {A : Type 0} {cap n : ℕ} {blank : A} {arr l : List A} where
         counts = sym shorter;
         fits = omega arith;
       }
-
--- a store at the count of the next of another list
-pub held-copy : {A : Type 0} {cap n : ℕ} {blank : A} {arr : List A} (xs ys : List A) (k : ℕ) (d : A)
-    → Held cap blank arr n (xs ++ take k ys) → k < length ys → n < cap
-    → Held cap blank (set arr n (getD ys k d)) (n + 1) (xs ++ take (k + 1) ys)
-held-copy xs ys k d h lt room = rw (add-one k, take-suc ys k d, ← append-assoc) (held-push h (getD ys k d) room)
-
--- all of an array's list has been copied
-pub held-copied : {A : Type 0} {cap cap' n m : ℕ} {blank blank' : A} {arr ps ys : List A} (xs : List A) (k : ℕ)
-    → Held cap' blank' ps m ys → k ≡ m → Held cap blank arr n (xs ++ take k ps) → Held cap blank arr n (xs ++ ys)
-held-copied {ps = ps} xs k g e h = rw (← (held-list g), ← e) h

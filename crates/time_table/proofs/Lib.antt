@@ -10,7 +10,6 @@ pub mod AtRow
 pub mod Orders
 pub mod Stretch
 pub mod Build
-pub mod Search
 pub mod Apart
 pub mod Conflict
 pub mod InsertionSum
@@ -28,6 +27,8 @@ pub mod AdjustedRight
 pub mod Demanded
 pub mod Overloaded
 pub mod Meets
+pub mod Laying
 pub mod Edits
 pub mod Updates
+pub mod Progress
 pub mod Examples

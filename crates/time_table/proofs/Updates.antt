@@ -1,7 +1,7 @@
 -- An update of a table: the removed parts lead from the old part to what both parts share, and the added ones from there to the new part.
 -- Assumes nothing.
-use mathlib.Core.Path.{_≡_, refl, sym, ap, _∙_}
-use mathlib.Core.Bool.{Bool, _||_, true, false, cond, true≢false, false≢true}
+use mathlib.Core.Path.{_≡_, refl, sym, _∙_}
+use mathlib.Core.Bool.{Bool, _||_, true, false, true≢false}
 use mathlib.Core.Logic.{⊎-elim}
 use mathlib.Core.List.{List, [], _∷_}
 use Prim.Native.Nat.{ℕ, _≤_}
@@ -18,7 +18,7 @@ use Rattle.time_table.specs.Adjustments.{stretch, leftOf, partsOf, parts
 use Rattle.time_table.specs.Insertion.{insertion}
 use Rattle.time_table.specs.Removal.{removal}
 use Rattle.time_table.specs.Meaning.{has, Right}
-use Rattle.time_table.specs.Update.{updateOver, updatedRows, moved, after, overAfter, editedAll, updated, Puts, Takes, Editable, Updatable}
+use Rattle.time_table.specs.Update.{updateOver, updatedRows, moved, after, overAfter, updated, Puts, Takes, Editable, Updatable}
 use Rattle.time_table.proofs.Held.{held-as}
 use Rattle.time_table.proofs.Adjusted.{stretch-none, stretch-some}
 use Rattle.time_table.proofs.Left.{left}
@@ -42,24 +42,8 @@ parts-in l = take-append-seam l _
 pub left-held : (p q : Part) → heldParts (partsOf (leftOf p q)) (partsIn (partsOf (leftOf p q)))
 left-held p q = held-as (record { is = refl; counts = refl; fits = left-short p q }) (sym (parts-in (leftOf p q)))
 
--- what the answer of several edits says
+-- rows that are never over are at most 128
 module _ (edit : Part → List Row → List Row) where
-  pub all-over : (ps : List Part) (t : Table) (e : Edited) → e ≡ editedAll edit ps t → e .over ≡ true → overAfter edit ps (rowsOf t) ≡ true
-  unfolding editedAll
-  all-over ps t e is over = verdict-over (overAfter edit ps (rowsOf t)) t (after edit ps (rowsOf t)) e is over
-
-  pub record AllFit (ps : List Part) (t : Table) (e : Edited) : Type 0 where
-    pub fits : overAfter edit ps (rowsOf t) ≡ false
-    pub is : e .table ≡ tableOf (after edit ps (rowsOf t))
-
-  pub all-fit : (ps : List Part) (t : Table) (e : Edited) → e ≡ editedAll edit ps t → e .over ≡ false → AllFit ps t e
-  unfolding editedAll
-  all-fit ps t e is fits =
-      let b = overAfter edit ps (rowsOf t) in
-      let no-over = verdict-fits b t (after edit ps (rowsOf t)) e is fits in
-      record { fits = no-over; is = verdict-table b t (after edit ps (rowsOf t)) e is no-over }
-
-  -- rows that are never over are at most 128
   pub after-short : (ps : List Part) (rows : List Row) → length rows ≤ 128 → overAfter edit ps rows ≡ false → length (after edit ps rows) ≤ 128
   unfolding after overAfter
   after-short [] rows le e = le
@@ -98,24 +82,6 @@ module _ (old new : Part) (t : Table) (u : Updatable old new t) where
         within = moved-within (old .id) (u .runs) (u .usage) (both old new) (u .task) (rw (← (u .of)) (u .draws)) (u .within);
         steps = added-steps (old .id) (u .runs) (u .usage) (u .task) (rw (← (u .of)) (u .draws)) (u .within) old new refl (u .same) (u .of) (u .equal ∙ u .of) (u .low) (u .high);
       })
-
--- the three answers
-module _ (old new : Part) (t : Table) where
-  pub update-over-removed : overAfter removal (removedParts old new) (rowsOf t) ≡ true → _≡_ {A = Edited} (record { over = true; table = t }) (updated old new t)
-  unfolding updated
-  update-over-removed e = rw e
-
-  module _ (t' : Table) (fits : overAfter removal (removedParts old new) (rowsOf t) ≡ false) (is : t' ≡ tableOf (after removal (removedParts old new) (rowsOf t))) where
-    same-rows : rowsOf t' ≡ after removal (removedParts old new) (rowsOf t)
-    same-rows = rw is (rows-of (after removal (removedParts old new) (rowsOf t)))
-
-    pub update-over-added : overAfter insertion (addedParts old new) (rowsOf t') ≡ true → _≡_ {A = Edited} (record { over = true; table = t }) (updated old new t)
-    unfolding updated
-    update-over-added e = rw (fits, ← same-rows, e)
-
-    pub update-fits : (e : Edited) → e .over ≡ false → AllFit insertion (addedParts old new) t' e → e ≡ updated old new t
-    unfolding updated
-    update-fits e no-over f = rw (fits, ← same-rows, f .fits) (λ i. record { over = no-over i; table = f .is i })
 
 -- what the answer of an update says
 neither : (a b : Bool) → (a || b) ≡ false → (a ≡ false) × (b ≡ false)

@@ -10,4 +10,5 @@ pub mod Overlap
 pub mod Overload
 pub mod Meaning
 pub mod Update
+pub mod Stepping
 pub mod Demand

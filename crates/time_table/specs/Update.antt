@@ -1,6 +1,6 @@
 -- An update applies all removed parts, then all added ones, each list in its order. If after some one part the table would have over 128 rows,
 -- it is over, and the table stays as it was.
-use mathlib.Core.Bool.{Bool, true, false, cond, _||_}
+use mathlib.Core.Bool.{Bool, false, cond, _||_}
 use mathlib.Core.Path.{_≡_}
 use mathlib.Core.List.{List, [], _∷_}
 use Prim.Native.Nat.{ℕ, _≤_, _<_}
@@ -10,7 +10,7 @@ use Rattle.time_table.specs.declared.Row.{Row}
 use Rattle.time_table.specs.declared.Part.{Part}
 use Rattle.time_table.specs.declared.Table.{Table}
 use Rattle.time_table.specs.declared.Edited.{Edited}
-use Rattle.time_table.specs.Rows.{rowsOf, tableOf, Clean}
+use Rattle.time_table.specs.Rows.{rowsOf, Clean}
 use Rattle.time_table.specs.Order.{ticks}
 use Rattle.time_table.specs.Table.{verdict}
 use Rattle.time_table.specs.Adjustments.{removedParts, addedParts}
@@ -27,10 +27,6 @@ after edit (p ∷ ps) rows = after edit ps (edit p rows)
 unfoldable pub overAfter : (Part → List Row → List Row) → List Part → List Row → Bool
 overAfter edit [] rows = false
 overAfter edit (p ∷ ps) rows = ltb 128 (length (edit p rows)) || overAfter edit ps (edit p rows)
-
--- the table after them, or over and the table as it was
-unfoldable pub editedAll : (Part → List Row → List Row) → List Part → Table → Edited
-editedAll edit ps t = verdict (overAfter edit ps (rowsOf t)) t (after edit ps (rowsOf t))
 
 -- the rows after an update from the old part to the new one, and whether some one part of it leaves over 128
 abbrev pub updatedRows : Part → Part → List Row → List Row

@@ -6,9 +6,9 @@
 pub mod checks;
 pub mod insertion;
 pub mod mandatory_part_adjustments;
+mod part_by_part;
 mod pieces;
 pub mod removal;
-mod splice;
 pub mod time_table_over_interval_incremental;
 pub mod time_table_util;
 

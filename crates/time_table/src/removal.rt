@@ -2,19 +2,14 @@
 // split_first_profile and split_last_profile are the two splits of checks.rt.
 ghost use mathlib.Core.Path.{_≡_};
 ghost use Prim.Native.Nat.{_+_, _≤_, _<_};
-ghost use Rattle.time_table.specs.Rows.{tasks, Listed, rowsOf};
-ghost use Rattle.time_table.specs.Table.{edited};
+ghost use Rattle.time_table.specs.Rows.{tasks, Listed};
 ghost use Rattle.time_table.specs.Pieces.{Adds, heldPieces};
-ghost use Rattle.time_table.specs.Removal.{position, without, lessened, reduced, removal, Removable, CanRemove};
-use crate::Edited;
+ghost use Rattle.time_table.specs.Removal.{position, without, lessened, reduced, Removable};
 use crate::Part;
 use crate::Row;
-use crate::Table;
 use crate::checks;
 use crate::pieces;
 use crate::pieces::Pieces;
-use crate::splice;
-use crate::time_table_over_interval_incremental::determine_profiles_to_update;
 
 // The place of a task in a row's list; the list's length if it has none.
 pub(crate) fn position(profile: Row, id: u8) -> usize
@@ -78,27 +73,4 @@ pub(crate) fn reduced_profile(part: Part, profile: Row) -> Pieces
     );
     let covered = overlap_updated_profile(part, profile, left);
     checks::split_profile_added_part_ends_before_profile_end(part, profile, covered)
-}
-
-// Takes a part out of the rows that it meets, and tells if the table would have more rows than it has
-// room for.
-pub fn reduce_profiles_overlapping_with_added_mandatory_part(table: Table, part: Part) -> Edited
-    requires { ⌜ CanRemove part table ⌝ }
-    ensures { λ r. ⌜ r ≡ edited table (removal part (rowsOf table)) ⌝ }
-{
-    let found = determine_profiles_to_update(table, part);
-    let first = found.first;
-    let past = found.past;
-    let mut add = Table::empty();
-    let mut i = first;
-    while i < past {
-        let row = table.rows[i];
-        let laid = splice::extend(add, reduced_profile(part, row));
-        if laid.over {
-            return Edited { over: true, table };
-        }
-        add = laid.table;
-        i += 1;
-    }
-    splice::splice(table, first, past, add)
 }

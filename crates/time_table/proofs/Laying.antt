@@ -1,0 +1,350 @@
+-- A step of an update goes from row to row: what it has laid, and what it makes of the rows that are left, are what it makes of all rows. It reads
+-- the rows as they were and writes to a copy of them, so what is laid stands before what the copy had from there on.
+-- Assumes nothing.
+use mathlib.Core.Path.{_≡_, refl, sym, ap, _∙_}
+use mathlib.Core.Bool.{Bool, true, false, cond, not, _&&_, _||_, false≢true}
+use mathlib.Core.Logic.{_⊎_, inl, inr, ⊎-elim}
+use mathlib.Core.List.{List, [], _∷_, _++_, append-assoc, append-nil}
+use Prim.Native.Nat.{ℕ, zero, suc, _+_, _-_, _≤_, _<_, _^_}
+use native.Mathlib.Omega.{arith}
+use native.Mathlib.Nat.{sub-zero, zero-sub, suc-sub-suc}
+use native.Mathlib.Numerals.{add-one}
+use borrow.Author.Tests.{lt-ltb, le-ltb, lt-leb, le-leb, leb-true}
+use lib.Dec.{ltb, leb}
+use lib.ListN.{length, drop, set, replicate, length-append, drop-of-length-le, replicate-append-replicate}
+use lib.Seq.{drop-cons, getD-take, set-at, append-snoc, drop-drop, drop-at}
+use Rattle.time_table.specs.declared.Row.{Row}
+use Rattle.time_table.specs.declared.Table.{Table}
+use Rattle.time_table.specs.declared.pieces.Pieces.{Pieces}
+use Rattle.time_table.specs.declared.part_by_part.Step.{Step}
+use Rattle.time_table.specs.Held.{Held}
+use Rattle.time_table.specs.Rows.{emptyRow, noRow, rowAt, rowsOf, Clean, cut}
+use Rattle.time_table.specs.Order.{Each, ticks}
+use Rattle.time_table.specs.Pieces.{heldPieces, piecesIn}
+use Rattle.time_table.specs.Overlap.{overlaps}
+use Rattle.time_table.specs.Insertion.{alone, grown, startedAt, pastRow, insertion, Insertable}
+use Rattle.time_table.specs.Removal.{reduced, removal, Removable}
+use Rattle.time_table.specs.Stepping.{stepped, made, madeLast, untouched, Changeable, CanStep}
+use Rattle.time_table.proofs.Held.{held-length, held-list, held-self}
+use Rattle.time_table.proofs.Cut.{cut-none}
+use Rattle.time_table.proofs.AtRow.{each-at, ordered-at}
+use Rattle.time_table.proofs.Heightened.{insertable-later}
+use Rattle.time_table.proofs.Apart.{reduced-early, reduced-late, grown-early, grown-late}
+use Rattle.time_table.proofs.Sums.{lt-or-le}
+
+-- what a step makes of no rows, and of a first row and the others
+module _ (s : Step) (x : ℕ) where
+  stepped-nil : stepped s x [] ≡ madeLast s x
+  unfolding removal insertion
+  stepped-nil = go (s .taking)
+    where
+      go : (b : Bool) → cond b (removal (s .part) []) (insertion (startedAt (s .part) x) []) ≡ cond b [] (cut (alone (s .part)) x (s .part .until))
+      go true = refl
+      go false = refl
+
+  stepped-cons : (r : Row) (rs : List Row) → stepped s x (r ∷ rs) ≡ made s x r ++ stepped s (pastRow (startedAt (s .part) x) r) rs
+  unfolding removal insertion
+  stepped-cons r rs = go (s .taking)
+    where
+      go : (b : Bool) → cond b (removal (s .part) (r ∷ rs)) (insertion (startedAt (s .part) x) (r ∷ rs))
+          ≡ cond b (reduced (s .part) r) (grown (startedAt (s .part) x) r) ++ cond b (removal (s .part) rs) (insertion (startedAt (s .part) (pastRow (startedAt (s .part) x) r)) rs)
+      go true = refl
+      go false = refl
+
+-- what a test says
+either : (a b : Bool) → (a || b) ≡ true → (a ≡ true) ⊎ (b ≡ true)
+either true b e = inl refl
+either false b e = inr e
+
+both : (a b : Bool) → (a && b) ≡ true → (a ≡ true) × (b ≡ true)
+both true b e = (refl, e)
+both false b e = absurd (false≢true e)
+
+-- a row that a step leaves as it is
+module _ (s : Step) (x : ℕ) (r : Row) (rs : List Row) (some : s .part .from < s .part .until) (low : s .part .from ≤ x) (high : x ≤ s .part .until)
+    (order : r .start ≤ r .end) where
+  leaves : Bool → Type 0
+  leaves b =
+      cond b (removal (s .part) (r ∷ rs)) (insertion (startedAt (s .part) x) (r ∷ rs))
+      ≡ r ∷ cond b (removal (s .part) rs) (insertion (startedAt (s .part) x) rs)
+
+  out : reduced (s .part) r ≡ r ∷ [] → leaves true
+  unfolding leaves removal
+  out e = ap (λ (l : List Row). l ++ removal (s .part) rs) e
+
+  into : grown (startedAt (s .part) x) r ≡ r ∷ [] → pastRow (startedAt (s .part) x) r ≡ x → leaves false
+  unfolding leaves insertion
+  into e still = rw (e, still)
+
+  early : r .end < s .part .from → (b : Bool) → leaves b
+  early lt true = out (reduced-early (s .part) r (omega arith) order lt)
+  early lt false = into (grown-early (startedAt (s .part) x) r high order (omega arith)) (omega arith)
+
+  late : s .part .until ≤ r .start → (b : Bool) → (b ≡ true) ⊎ (s .part .until ≤ x) → leaves b
+  late le true used = out (reduced-late (s .part) r (omega arith) order le)
+  late le false used =
+      let done : s .part .until ≤ x = ⊎-elim (λ e. absurd (false≢true e)) (λ h. h) used in
+      into (rw (cut-none (alone (s .part)) x (s .part .until) done) at (grown-late (s .part) r x high order le)) (omega arith)
+
+  stepped-untouched : untouched s x r ≡ true → stepped s x (r ∷ rs) ≡ r ∷ stepped s x rs
+  unfolding leaves
+  stepped-untouched e =
+      let apart = both (not (overlaps (s .part .from) (s .part .until) (r .start) (r .end))) _ e in
+      ⊎-elim
+      (λ lt. early lt (s .taking))
+      (λ ge. late (behind ge (apart .0)) (s .taking) (used ge (apart .1)))
+      (lt-or-le (r .end) (s .part .from))
+    where
+      behind : s .part .from ≤ r .end → not (overlaps (s .part .from) (s .part .until) (r .start) (r .end)) ≡ true → s .part .until ≤ r .start
+      behind ge h =
+          ⊎-elim
+          (λ lt. absurd (false≢true (rw (lt-ltb (r .start) (s .part .until) lt, le-leb (s .part .from) (r .end) ge) at h)))
+          (λ le. le)
+          (lt-or-le (r .start) (s .part .until))
+
+      used : s .part .from ≤ r .end → (ltb (r .end) (s .part .from) || (s .taking || leb (s .part .until) x)) ≡ true → (s .taking ≡ true) ⊎ (s .part .until ≤ x)
+      used ge h =
+          ⊎-elim (λ t. inl t) (λ u. inr (leb-true (s .part .until) x u))
+          (either (s .taking) (leb (s .part .until) x) (rw (le-ltb (r .end) (s .part .from) ge) at h))
+
+-- a row of a table's array, as one of its rows
+row-of : (P : Row → Type 0) (t : Table) (i : ℕ) → Clean t → i < t .count → Each P (rowsOf t) → P (rowAt (t .rows) i)
+row-of P t i h lt all =
+    let within : i < length (rowsOf t) = omega (arith, h .counts) in
+    rw (← (getD-take (t .count) (t .rows) i noRow lt)) (each-at P (rowsOf t) i within all)
+
+-- the first n of the rows are `done`, and from there on they are those of another list
+pub record Front (source rows : List Row) (n : ℕ) (done : List Row) : Type 0 where
+  pub is : rows ≡ done ++ drop n source
+  pub counts : n ≡ length done
+  pub size : length source ≡ 128
+  pub fits : n ≤ 128
+
+module _ {source rows done : List Row} {n : ℕ} (f : Front source rows n done) where
+  front-as : {l : List Row} → done ≡ l → Front source rows n l
+  front-as e = rw e at f
+
+  opened : n < 128 → rows ≡ done ++ rowAt source n ∷ drop (n + 1) source
+  opened lt =
+      let inside : n < length source = omega (arith, f .size) in
+      f .is ∙ rw (add-one n) (ap (λ (l : List Row). done ++ l) (drop-cons source n noRow inside))
+
+  longer : (x : Row) → n + 1 ≡ length (done ++ x ∷ [])
+  longer x = rw length-append (omega (arith, f .counts))
+
+  -- one more stored; or left where it is
+  front-store : n < 128 → (x : Row) → Front source (set rows n x) (n + 1) (done ++ x ∷ [])
+  front-store lt x =
+      record {
+        is = rw (opened lt, append-snoc) (set-at done _ _ x n (sym (f .counts)));
+        counts = longer x;
+        size = f .size;
+        fits = omega arith;
+      }
+
+  front-skip : n < 128 → Front source rows (n + 1) (done ++ rowAt source n ∷ [])
+  front-skip lt = record { is = rw append-snoc (opened lt); counts = longer (rowAt source n); size = f .size; fits = omega arith }
+
+-- what is left of the rows behind the first i; nothing, once the last piece is there
+pub rest : Step → ℕ → Table → ℕ → List Row
+rest s x t i = cond (leb i (t .count)) (stepped s x (drop i (rowsOf t))) []
+
+-- a step of the table t has laid n rows, has come to the instant x and the row i, and has pieces from j on to lay next
+pub record Laid (s : Step) (t : Table) (rows : List Row) (n x i : ℕ) (p : Pieces) (j : ℕ) : Type 0 where
+  pub done : List Row
+  pub front : Front (t .rows) rows n done
+  pub held : heldPieces p (piecesIn p)
+  pub within : j ≤ p .count
+  pub low : s .part .from ≤ x
+  pub high : x ≤ s .part .until
+  pub far : i ≤ t .count + 1
+  pub joins : done ++ (drop j (piecesIn p) ++ rest s x t i) ≡ stepped s (s .part .from) (rowsOf t)
+
+module _ (s : Step) (t : Table) (can : CanStep s t) where
+  pub laid-start : (none : Pieces) → heldPieces none [] → Laid s t (t .rows) 0 (s .part .from) 0 none 0
+  unfolding rest
+  laid-start none h =
+      record {
+        done = [];
+        front = record { is = refl; counts = refl; size = held-length (can .arranged .clean); fits = omega arith };
+        held = held-self h;
+        within = omega arith;
+        low = omega arith;
+        high = omega (arith, can .some);
+        far = omega arith;
+        joins = rw (held-list h, le-leb 0 (t .count) (omega arith));
+      }
+
+  -- the row at a place
+  module _ (i : ℕ) (lt : i < t .count) where
+    row : Row
+    row = rowAt (t .rows) i
+
+    pub row-lies : (rowAt (t .rows) i .start ≤ rowAt (t .rows) i .end) × (rowAt (t .rows) i .end + 1 < 2 ^ 32)
+    row-lies =
+        let inside : i < length (rowsOf t) = omega (arith, can .arranged .clean .counts) in
+        let w = ordered-at ticks 0 (rowsOf t) i inside (can .arranged .ordered) in
+        rw (← (getD-take (t .count) (t .rows) i noRow lt)) (w .1, omega (arith, w .2))
+
+    pub row-changeable : (x : ℕ) → s .part .from ≤ x → Changeable s x (rowAt (t .rows) i)
+    row-changeable x le =
+        record {
+          out = λ e. row-of (Removable (s .part)) t i (can .arranged .clean) lt (can .out e);
+          into = λ e. insertable-later (s .part) _ x le (row-of (Insertable (s .part)) t i (can .arranged .clean) lt (can .into e));
+        }
+
+    rest-here : (x : ℕ) → rest s x t i ≡ stepped s x (rowAt (t .rows) i ∷ drop (i + 1) (rowsOf t))
+    unfolding rest
+    rest-here x =
+        let inside : i < length (rowsOf t) = omega (arith, can .arranged .clean .counts) in
+        rw (le-leb i (t .count) (omega arith), add-one i, ← (getD-take (t .count) (t .rows) i noRow lt))
+        (ap (λ (l : List Row). stepped s x l) (drop-cons (rowsOf t) i noRow inside))
+
+    rest-next : (x : ℕ) → rest s x t (i + 1) ≡ stepped s x (drop (i + 1) (rowsOf t))
+    unfolding rest
+    rest-next x = rw (le-leb (i + 1) (t .count) (omega arith))
+
+  module _ {rows : List Row} {n x i j : ℕ} {p : Pieces} (l : Laid s t rows n x i p j) where
+    -- a piece is laid
+    piece-next : j < p .count → drop j (piecesIn p) ≡ rowAt (p .rows) j ∷ drop (j + 1) (piecesIn p)
+    piece-next lt =
+        let inside : j < length (piecesIn p) = omega (arith, l .held .counts) in
+        rw (add-one j, ← (getD-take (p .count) (p .rows) j noRow lt)) (drop-cons (piecesIn p) j noRow inside)
+
+    pub laid-piece : j < p .count → n < 128 → Laid s t (set rows n (rowAt (p .rows) j)) (n + 1) x i p (j + 1)
+    laid-piece lt room =
+        record {
+          done = l .done ++ rowAt (p .rows) j ∷ [];
+          front = front-store (l .front) room (rowAt (p .rows) j);
+          held = l .held;
+          within = omega arith;
+          low = l .low;
+          high = l .high;
+          far = l .far;
+          joins = rw append-snoc (rw (piece-next lt) at (l .joins));
+        }
+
+    pub piece-over : j < p .count → 128 ≤ n → 128 < length (stepped s (s .part .from) (rowsOf t))
+    piece-over lt full = rw (← (l .joins), piece-next lt, length-append) (omega (arith, l .front .counts))
+
+    -- no piece is left
+    module _ (none : p .count ≤ j) where
+      spent : l .done ++ rest s x t i ≡ stepped s (s .part .from) (rowsOf t)
+      spent =
+          let past : length (piecesIn p) ≤ j = omega (arith, l .held .counts) in
+          rw (drop-of-length-le (piecesIn p) past) at (l .joins)
+
+      pub laid-last : i ≡ t .count → (q : Pieces) → heldPieces q (madeLast s x) → Laid s t rows n x (i + 1) q 0
+      unfolding rest
+      laid-last e q h =
+          let past : length (rowsOf t) ≤ i = omega (arith, can .arranged .clean .counts) in
+          record {
+            done = l .done;
+            front = l .front;
+            held = held-self h;
+            within = omega arith;
+            low = l .low;
+            high = l .high;
+            far = omega arith;
+            joins = rw (held-list h, lt-leb (i + 1) (t .count) (omega arith), append-nil)
+                (rw (le-leb i (t .count) (omega arith), drop-of-length-le (rowsOf t) past, stepped-nil) at spent);
+          }
+
+      pub laid-all : t .count < i → Front (t .rows) rows n (stepped s (s .part .from) (rowsOf t))
+      unfolding rest
+      laid-all past = front-as (l .front) (rw (lt-leb i (t .count) past, append-nil) at spent)
+
+      module _ (lt : i < t .count) where
+        pub laid-cut : (q : Pieces) → heldPieces q (made s x (rowAt (t .rows) i)) → Laid s t rows n (pastRow (startedAt (s .part) x) (rowAt (t .rows) i)) (i + 1) q 0
+        laid-cut q h =
+            record {
+              done = l .done;
+              front = l .front;
+              held = held-self h;
+              within = omega arith;
+              low = omega (arith, l .low);
+              high = omega (arith, l .high);
+              far = omega arith;
+              joins = rw (held-list h, rest-next i lt) (rw (rest-here i lt, stepped-cons) at spent);
+            }
+
+        module _ (still : untouched s x (rowAt (t .rows) i) ≡ true) where
+          onward : (l .done ++ rowAt (t .rows) i ∷ []) ++ rest s x t (i + 1) ≡ stepped s (s .part .from) (rowsOf t)
+          onward =
+              rw (append-snoc, rest-next i lt)
+              (rw (rest-here i lt, stepped-untouched s x (rowAt (t .rows) i) (drop (i + 1) (rowsOf t)) (can .some) (l .low) (l .high) (row-lies i lt .0) still) at spent)
+
+          behind : {rows' : List Row} → Front (t .rows) rows' (n + 1) (l .done ++ rowAt (t .rows) i ∷ []) → Laid s t rows' (n + 1) x (i + 1) p j
+          behind f =
+              let past : length (piecesIn p) ≤ j = omega (arith, l .held .counts) in
+              record {
+                done = l .done ++ rowAt (t .rows) i ∷ [];
+                front = f;
+                held = l .held;
+                within = l .within;
+                low = l .low;
+                high = l .high;
+                far = omega arith;
+                joins = rw (drop-of-length-le (piecesIn p) past) onward;
+              }
+
+          pub laid-moves : n < 128 → Laid s t (set rows n (rowAt (t .rows) i)) (n + 1) x (i + 1) p j
+          laid-moves room = behind (front-store (l .front) room (rowAt (t .rows) i))
+
+          pub laid-stays : n ≡ i → Laid s t rows (n + 1) x (i + 1) p j
+          laid-stays e = behind (front-as (front-skip (l .front) (omega (arith, can .arranged .clean .fits))) (ap (λ (k : ℕ). l .done ++ rowAt (t .rows) k ∷ []) e))
+
+          pub moves-over : 128 ≤ n → 128 < length (stepped s (s .part .from) (rowsOf t))
+          moves-over full = rw (← onward, length-append, length-append) (omega (arith, l .front .counts))
+
+-- the places behind the rows are cleared, as far as the old rows went
+drop-replicate : {A : Type 0} (k m : ℕ) (a : A) → drop k (replicate m a) ≡ replicate (m - k) a
+drop-replicate zero m a = rw sub-zero
+drop-replicate (suc k) zero a = rw zero-sub
+drop-replicate (suc k) (suc m) a = rw suc-sub-suc (drop-replicate k m a)
+
+pub record Cleared (whole : List Row) (count : ℕ) (rows : List Row) (n at : ℕ) : Type 0 where
+  pub source : List Row
+  pub front : Front source rows at (whole ++ replicate (at - n) emptyRow)
+  pub counts : n ≡ length whole
+  pub upto : n ≤ at
+  pub blank : drop count source ≡ replicate (128 - count) emptyRow
+
+pub clear-start : (t : Table) {whole rows : List Row} {n : ℕ} → Clean t → Front (t .rows) rows n whole → Cleared whole (t .count) rows n n
+clear-start t {whole} {rows} {n} clean f =
+    let none : n - n ≡ 0 = omega arith in
+    let long : 128 - length (rowsOf t) ≡ 128 - t .count = omega (arith, clean .counts) in
+    record {
+      source = t .rows;
+      front = rw (none, append-nil) f;
+      counts = f .counts;
+      upto = omega arith;
+      blank = ap (λ (l : List Row). drop (t .count) l) (clean .is) ∙ drop-at (rowsOf t) _ (t .count) (sym (clean .counts)) ∙ rw long;
+    }
+
+module _ {whole rows : List Row} {count n at : ℕ} (c : Cleared whole count rows n at) where
+  pub clear-more : at < 128 → Cleared whole count (set rows at emptyRow) n (at + 1)
+  clear-more lt =
+      let more : at + 1 - n ≡ (at - n) + 1 = omega (arith, c .upto) in
+      record {
+        source = c .source;
+        front = front-as (front-store (c .front) lt emptyRow)
+            (rw (more, append-assoc) (ap (λ (l : List Row). whole ++ l) (replicate-append-replicate (at - n) 1 emptyRow)));
+        counts = c .counts;
+        upto = omega (arith, c .upto);
+        blank = c .blank;
+      }
+
+  pub clear-all : count ≤ at → Held 128 emptyRow rows n whole
+  clear-all le =
+      let there : count + (at - count) ≡ at = omega arith in
+      let left : 128 - count - (at - count) ≡ 128 - at = omega arith in
+      let gap : (at - n) + (128 - at) ≡ 128 - length whole = omega (arith, c .counts, c .upto, c .front .fits) in
+      let tail : drop at (c .source) ≡ replicate (128 - at) emptyRow =
+      ap (λ (k : ℕ). drop k (c .source)) (sym there) ∙ sym (drop-drop (at - count) count (c .source)) ∙ ap (λ (l : List Row). drop (at - count) l) (c .blank)
+      ∙ drop-replicate (at - count) (128 - count) emptyRow ∙ ap (λ (k : ℕ). replicate k emptyRow) left in
+      record {
+        is = c .front .is ∙ rw (tail, append-assoc, replicate-append-replicate, gap);
+        counts = c .counts;
+        fits = omega (arith, c .upto, c .front .fits);
+      }

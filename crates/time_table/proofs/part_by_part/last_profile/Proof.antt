@@ -1,0 +1,24 @@
+-- `last_profile` meets its contract: nothing is laid where a part is taken out.
+-- Assumes nothing.
+use borrow.Author.Needs.{needs}
+use Rattle.time_table.proofs.part_by_part.last_profile.Statement.{statement}
+use Rattle.time_table.proofs.part_by_part.last_profile.Tie as tie
+
+none-requires : tie.Need-none-requires
+none-requires c κs = search needs
+
+returns : tie.Need-returns
+returns c = rw (c .if1 .taken) (c .before .none .ensures)
+
+new-profile-requires : tie.Need-new-profile-requires
+new-profile-requires c κs = search needs
+
+put-requires : tie.Need-put-requires
+put-requires c κs = search needs
+
+returns-2 : tie.Need-returns-2
+returns-2 c = rw (c .before .before .before .if1 .left, ← (c .before .new-profile .ensures)) (c .put .ensures .1 _ (c .before .before .before .before .none .ensures))
+
+pub last-profile-spec : {M : Type 1} → statement M
+last-profile-spec =
+    tie.close (tie.spec none-requires returns new-profile-requires put-requires returns-2)

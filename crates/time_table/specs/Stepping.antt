@@ -1,0 +1,51 @@
+-- An update in steps: one part after another is taken out of the rows, or put into them, and each step goes from row to row.
+use mathlib.Core.Path.{_≡_}
+use mathlib.Core.Bool.{Bool, true, false, cond, not, _&&_, _||_}
+use mathlib.Core.List.{List, []}
+use Prim.Native.Nat.{ℕ, _-_, _<_}
+use lib.Dec.{ltb, leb}
+use lib.ListN.{getD}
+use Rattle.time_table.specs.declared.Row.{Row}
+use Rattle.time_table.specs.declared.Table.{Table}
+use Rattle.time_table.specs.declared.part_by_part.Step.{Step}
+use Rattle.time_table.specs.declared.mandatory_part_adjustments.MandatoryPartAdjustments.{MandatoryPartAdjustments}
+use Rattle.time_table.specs.Rows.{rowsOf, cut}
+use Rattle.time_table.specs.Order.{Each, Arranged}
+use Rattle.time_table.specs.Adjustments.{emptyPart}
+use Rattle.time_table.specs.Overlap.{overlaps}
+use Rattle.time_table.specs.Insertion.{alone, grown, startedAt, insertion, Insertable}
+use Rattle.time_table.specs.Removal.{reduced, removal, Removable}
+
+-- the steps by number: first the parts that are removed, then those that are added
+abbrev pub stepAt : MandatoryPartAdjustments → ℕ → Step
+stepAt a k =
+    cond (ltb k (a .removed .count)) (record { part = getD (a .removed .parts) k emptyPart; taking = true })
+    (record { part = getD (a .added .parts) (k - a .removed .count) emptyPart; taking = false })
+
+-- what a step makes of rows, where its part has come to the instant x
+abbrev pub stepped : Step → ℕ → List Row → List Row
+stepped s x rows = cond (s .taking) (removal (s .part) rows) (insertion (startedAt (s .part) x) rows)
+
+-- of one row; and behind the last
+abbrev pub made : Step → ℕ → Row → List Row
+made s x r = cond (s .taking) (reduced (s .part) r) (grown (startedAt (s .part) x) r)
+
+abbrev pub madeLast : Step → ℕ → List Row
+madeLast s x = cond (s .taking) [] (cut (alone (s .part)) x (s .part .until))
+
+-- a row that the part does not overlap and before which nothing is left to be laid: it ends before the part, or the part is taken out or laid
+abbrev pub untouched : Step → ℕ → Row → Bool
+untouched s x r =
+    not (overlaps (s .part .from) (s .part .until) (r .start) (r .end)) && (ltb (r .end) (s .part .from) || (s .taking || leb (s .part .until) x))
+
+-- a step can be made on a row
+pub record Changeable (s : Step) (x : ℕ) (r : Row) : Type 0 where
+  pub out : s .taking ≡ true → Removable (s .part) r
+  pub into : s .taking ≡ false → Insertable (startedAt (s .part) x) r
+
+-- and on a table
+pub record CanStep (s : Step) (t : Table) : Type 0 where
+  pub arranged : Arranged t
+  pub some : s .part .from < s .part .until
+  pub out : s .taking ≡ true → Each (Removable (s .part)) (rowsOf t)
+  pub into : s .taking ≡ false → Each (Insertable (s .part)) (rowsOf t)
