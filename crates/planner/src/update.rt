@@ -2,10 +2,9 @@
 ghost use mathlib.Core.Path.{_≡_};
 ghost use Prim.Native.Nat.{_≤_, _<_};
 ghost use lib.ListN.{set};
-ghost use Rattle.time_table.specs.Rows.{rowsOf};
 ghost use Rattle.sweep.specs.Tasks.{tasksOf, tasksWith, heldTasks};
-ghost use Rattle.planner.specs.Sound.{Sound, SoundTasks, Live};
-ghost use Rattle.planner.specs.Answers.{livePlan, refusedUpdate};
+ghost use Rattle.planner.specs.Sound.{Sound};
+ghost use Rattle.planner.specs.Answers.{refusedUpdate};
 ghost use Rattle.planner.specs.Updates.{known, acceptedUpdate, updated};
 use crate::Answer;
 use crate::Checked;
@@ -17,7 +16,6 @@ use crate::load;
 use crate::records;
 use sweep::Task;
 use sweep::Tasks;
-use time_table::Table;
 use time_table::time_table_over_interval_incremental::find_conflicting_profile;
 use time_table::time_table_over_interval_incremental::update_time_table;
 
@@ -52,41 +50,17 @@ pub(crate) fn replace_task(tasks: Tasks, id: usize, task: Task) -> Tasks
     replaced
 }
 
-// The answer and the plan of a table that is live and right for its tasks.
-pub(crate) fn live_plan(capacity: u32, tasks: Tasks, table: Table) -> Updated
-    requires { ⌜ SoundTasks tasks × (capacity ≤ 1000000000) × Live tasks table ⌝ }
-    ensures { λ r. ⌜ r ≡ livePlan capacity (tasksOf tasks) (rowsOf table) ⌝ }
-    ensures { λ r. ⌜ Sound (r .plan) ⌝ }
-{
-    let conflict = find_conflicting_profile(table, capacity);
-    let plan = Plan {
-        table,
-        tasks,
-        capacity,
-        live: true,
-    };
-    if conflict.found {
-        return Updated {
-            plan,
-            answer: Answer::Overloaded,
-            row: records::record_of(conflict.row),
-        };
-    }
-    Updated {
-        plan,
-        answer: Answer::Fits,
-        row: records::no_record(),
-    }
-}
-
 // An update that is accepted but for the table's room: a live table is edited, and a stale plan is
-// swept again.
+// swept again. The plan is changed in its place, since each further exit would copy it once more.
 pub(crate) fn accepted_update(plan: Plan, id: usize, earliest: u32, latest: u32) -> Updated
     requires { ⌜ Sound plan × (id < plan .tasks .count) × (earliest ≤ latest) × (latest ≤ 2000000000) ⌝ }
     ensures { λ r. ⌜ r ≡ acceptedUpdate plan id earliest latest ⌝ }
     ensures { λ r. ⌜ Sound (r .plan) ⌝ }
 {
-    let tasks = plan.tasks;
+    let mut after = plan;
+    let mut answer = Answer::Fits;
+    let mut row = records::no_record();
+    let tasks = after.tasks;
     let old = tasks.list[id];
     let new = Task {
         earliest,
@@ -95,19 +69,40 @@ pub(crate) fn accepted_update(plan: Plan, id: usize, earliest: u32, latest: u32)
         usage: old.usage,
     };
     let replaced = replace_task(tasks, id, new);
-    if !plan.live {
-        return load::swept_plan(plan.capacity, replaced);
+    if after.live {
+        let place = id as u8;
+        let edited = update_time_table(
+            after.table,
+            old.mandatory_part(place),
+            new.mandatory_part(place),
+        );
+        if edited.over {
+            answer = Answer::Refused(Refusal::TooManyRows);
+        } else {
+            let table = edited.table;
+            let conflict = find_conflicting_profile(table, plan.capacity);
+            after = Plan {
+                table,
+                tasks: replaced,
+                capacity: plan.capacity,
+                live: true,
+            };
+            if conflict.found {
+                answer = Answer::Overloaded;
+                row = records::record_of(conflict.row);
+            }
+        }
+    } else {
+        let swept = load::swept_plan(after.capacity, replaced);
+        answer = swept.answer;
+        row = swept.row;
+        after = swept.plan;
     }
-    let place = id as u8;
-    let edited = update_time_table(
-        plan.table,
-        old.mandatory_part(place),
-        new.mandatory_part(place),
-    );
-    if edited.over {
-        return refused_update(plan, Refusal::TooManyRows);
+    Updated {
+        plan: after,
+        answer,
+        row,
     }
-    live_plan(plan.capacity, replaced, edited.table)
 }
 
 impl Plan {
