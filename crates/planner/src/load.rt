@@ -78,27 +78,22 @@ pub(crate) fn swept_plan(capacity: u32, tasks: Tasks) -> Updated
 {
     let swept = create_time_table_over_interval_from_scratch(tasks, capacity);
     let table = swept.table;
+    let live = !swept.overloaded;
+    let mut answer = Answer::Fits;
+    let mut row = records::no_record();
     if swept.overloaded {
-        return Updated {
-            plan: Plan {
-                table,
-                tasks,
-                capacity,
-                live: false,
-            },
-            answer: Answer::Overloaded,
-            row: records::record_of(swept.row),
-        };
+        answer = Answer::Overloaded;
+        row = records::record_of(swept.row);
     }
     Updated {
         plan: Plan {
             table,
             tasks,
             capacity,
-            live: true,
+            live,
         },
-        answer: Answer::Fits,
-        row: records::no_record(),
+        answer,
+        row,
     }
 }
 

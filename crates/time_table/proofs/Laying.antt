@@ -7,7 +7,7 @@ use mathlib.Core.Logic.{_⊎_, inl, inr, ⊎-elim}
 use mathlib.Core.List.{List, [], _∷_, _++_, append-assoc, append-nil}
 use Prim.Native.Nat.{ℕ, zero, suc, _+_, _-_, _≤_, _<_, _^_}
 use native.Mathlib.Omega.{arith}
-use native.Mathlib.Nat.{sub-zero, zero-sub, suc-sub-suc}
+use native.Mathlib.Nat.{sub-zero, zero-sub, suc-sub-suc, not-suc-le-zero, le-of-suc-le-suc}
 use native.Mathlib.Numerals.{add-one}
 use borrow.Author.Tests.{lt-ltb, le-ltb, lt-leb, le-leb, leb-true}
 use lib.Dec.{ltb, leb}
@@ -19,7 +19,7 @@ use Rattle.time_table.specs.declared.pieces.Pieces.{Pieces}
 use Rattle.time_table.specs.declared.part_by_part.Step.{Step}
 use Rattle.time_table.specs.Held.{Held}
 use Rattle.time_table.specs.Rows.{emptyRow, noRow, rowAt, rowsOf, Clean, cut}
-use Rattle.time_table.specs.Order.{Each, ticks}
+use Rattle.time_table.specs.Order.{Each, Ordered, ticks}
 use Rattle.time_table.specs.Pieces.{heldPieces, piecesIn}
 use Rattle.time_table.specs.Overlap.{overlaps}
 use Rattle.time_table.specs.Insertion.{alone, grown, startedAt, pastRow, insertion, Insertable}
@@ -296,6 +296,42 @@ module _ (s : Step) (t : Table) (can : CanStep s t) where
 
           pub moves-over : 128 ≤ n → 128 < length (stepped s (s .part .from) (rowsOf t))
           moves-over full = rw (← onward, length-append, length-append) (omega (arith, l .front .counts))
+
+-- of ordered rows none starts before an earlier one
+starts-after : (hi lo : ℕ) (rows : List Row) (i k : ℕ) → Ordered hi lo rows → i ≤ k → k < length rows → rowAt rows i .start ≤ rowAt rows k .start
+unfolding Ordered
+starts-after hi lo [] i k o le lt = absurd (not-suc-le-zero lt)
+starts-after hi lo (r ∷ rs) zero zero o le lt = omega arith
+starts-after hi lo (r ∷ rs) zero (suc k) o le lt = omega (arith, ordered-at hi (r .end + 1) rs k (le-of-suc-le-suc lt) (o .3), o .1)
+starts-after hi lo (r ∷ rs) (suc i) zero o le lt = absurd (not-suc-le-zero le)
+starts-after hi lo (r ∷ rs) (suc i) (suc k) o le lt = starts-after hi (r .end + 1) rs i k (o .3) (le-of-suc-le-suc le) (le-of-suc-le-suc lt)
+
+module _ (s : Step) (t : Table) (can : CanStep s t) where
+  -- behind a row that starts behind the part and stays, all rows stay
+  all-stay : (x i : ℕ) → i < t .count → s .part .until ≤ rowAt (t .rows) i .start → untouched s x (rowAt (t .rows) i) ≡ true
+      → (k : ℕ) → i ≤ k → k < t .count → untouched s x (rowAt (t .rows) k) ≡ true
+  all-stay x i lt late e k le inside =
+      let there : rowAt (t .rows) i .start ≤ rowAt (t .rows) k .start =
+      rw (← (getD-take (t .count) (t .rows) i noRow lt), ← (getD-take (t .count) (t .rows) k noRow inside))
+      (starts-after ticks 0 (rowsOf t) i k (can .arranged .ordered) le (omega (arith, can .arranged .clean .counts))) in
+      let here = row-lies s t can i lt in
+      let far = row-lies s t can k inside in
+      let done = both (not (overlaps (s .part .from) (s .part .until) (rowAt (t .rows) i .start) (rowAt (t .rows) i .end))) _ e .1 in
+      rw (le-ltb (rowAt (t .rows) k .start) (s .part .until) (omega (arith, late, there)), le-ltb (rowAt (t .rows) k .end) (s .part .from) (omega (arith, can .some, late, there, far)))
+      (rw (le-ltb (rowAt (t .rows) i .end) (s .part .from) (omega (arith, can .some, late, here))) at done)
+
+  go-on : (m : ℕ) {rows : List Row} {n x i j : ℕ} {p : Pieces} → Laid s t rows n x i p j → p .count ≤ j → n ≡ i → i + m ≡ t .count
+      → ((k : ℕ) → i ≤ k → k < t .count → untouched s x (rowAt (t .rows) k) ≡ true) → Laid s t rows (t .count) x (t .count) p j
+  go-on zero {n = n} {i = i} l none e f all =
+      let at-end : i ≡ t .count = omega arith in
+      let all-laid : n ≡ t .count = omega arith in
+      rw (all-laid, at-end) at l
+  go-on (suc m) {i = i} l none e f all =
+      go-on m (laid-stays s t can l none (omega arith) (all i (omega arith) (omega arith)) e) none (omega arith) (omega arith) (λ k le lt. all k (omega arith) lt)
+
+  pub laid-rests : {rows : List Row} {n x i j : ℕ} {p : Pieces} → Laid s t rows n x i p j → p .count ≤ j → i < t .count
+      → untouched s x (rowAt (t .rows) i) ≡ true → n ≡ i → s .part .until ≤ rowAt (t .rows) i .start → Laid s t rows (t .count) x (t .count) p j
+  laid-rests {x = x} {i = i} l none lt e same late = go-on (t .count - i) l none same (omega arith) (all-stay x i lt late e)
 
 -- the places behind the rows are cleared, as far as the old rows went
 drop-replicate : {A : Type 0} (k m : ℕ) (a : A) → drop k (replicate m a) ≡ replicate (m - k) a

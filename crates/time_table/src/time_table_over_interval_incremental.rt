@@ -1,5 +1,4 @@
-// Which rows an edit replaces, the parts of an update applied one by one, and the first row that is
-// too high
+// The parts of an update applied one by one, and the first row that is too high
 // (the Rust's time_table_over_interval_incremental.rs).
 ghost use mathlib.Core.Path.{_≡_};
 ghost use Rattle.time_table.specs.Rows.{rowsOf, Clean};
@@ -20,7 +19,9 @@ pub struct Conflict {
 }
 
 // The table of a task's old mandatory part turned into that of its new one, or over: first what is
-// removed, then what is added. A copy of the table costs more than all else, so one function has it.
+// removed, then what is added. Each part goes over the rows once: it reads them from `source`, writes
+// what becomes of them, and clears the places of old rows that are left behind. One function does it
+// all, since to hand the rows to another would copy them.
 pub fn update_time_table(table: Table, old: Part, new: Part) -> Edited
     requires { ⌜ Updatable old new table ⌝ }
     ensures { λ r. ⌜ r ≡ updated old new table ⌝ }
@@ -58,8 +59,13 @@ pub fn update_time_table(table: Table, old: Part, new: Part) -> Edited
                     from = part_by_part::instant_behind(step.part, from, row);
                     i += 1;
                 } else if n == i {
-                    n += 1;
-                    i += 1;
+                    if row.start < step.part.until {
+                        n += 1;
+                        i += 1;
+                    } else {
+                        n = count;
+                        i = count;
+                    }
                 } else {
                     if n == Table::ROWS {
                         return Edited { table, over: true };

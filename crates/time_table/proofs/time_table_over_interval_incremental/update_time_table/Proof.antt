@@ -8,7 +8,7 @@ use Prim.Native.Nat.{_+_, _-_, _*_, _≤_, _<_}
 use native.Mathlib.Omega.{arith}
 use borrow.Author.Needs.{needs}
 use borrow.Author.Tests.{ltb-true, ltb-false}
-use Rattle.time_table.proofs.Laying.{Laid, laid-start, row-lies, row-changeable, laid-piece, piece-over, laid-last, laid-all, laid-cut, laid-moves, laid-stays, moves-over, clear-start, clear-more, clear-all}
+use Rattle.time_table.proofs.Laying.{Laid, laid-start, row-lies, row-changeable, laid-piece, piece-over, laid-last, laid-all, laid-cut, laid-moves, laid-stays, laid-rests, moves-over, clear-start, clear-more, clear-all}
 use Rattle.time_table.proofs.Progress.{tabled, Progress, Turn, turn, finished, started, answer-is, Closing}
 use Rattle.time_table.proofs.time_table_over_interval_incremental.update_time_table.Statement.{statement}
 use Rattle.time_table.proofs.time_table_over_interval_incremental.update_time_table.Tie as tie
@@ -154,18 +154,28 @@ loop2-again-3 c =
     )
 
 add-n-2 : tie.Need-add-n-2 Inv-loop2 μ-loop2 Inv-loop3 μ-loop3 Inv-loop μ-loop
-add-n-2 c = omega (arith, inside (c .before .before .before .before), c .before .before .before .before .before .before .before .loop2 .inv .0 .can .arranged .clean .fits, c .if7 .taken)
+add-n-2 c = omega (arith, inside (c .before .before .before .before .before .before .before), c .before .before .before .before .before .before .before .before .before .before .loop2 .inv .0 .can .arranged .clean .fits, c .before .before .before .if7 .taken)
 
 add-i-3 : tie.Need-add-i-3 Inv-loop2 μ-loop2 Inv-loop3 μ-loop3 Inv-loop μ-loop
-add-i-3 c = omega (arith, inside (c .before .before .before .before), c .before .before .before .before .before .before .before .loop2 .inv .0 .can .arranged .clean .fits)
+add-i-3 c = omega (arith, inside (c .before .before .before .before .before .before .before), c .before .before .before .before .before .before .before .before .before .before .loop2 .inv .0 .can .arranged .clean .fits)
 
 loop2-less-4 : tie.Need-loop2-less-4 Inv-loop2 μ-loop2 Inv-loop3 μ-loop3 Inv-loop μ-loop
-loop2-less-4 c = omega (arith, inside (c .before .before .before .before))
+loop2-less-4 c = omega (arith, inside (c .before .before .before .before .before .before .before))
 
 loop2-again-4 : tie.Need-loop2-again-4 Inv-loop2 μ-loop2 Inv-loop3 μ-loop3 Inv-loop μ-loop
 loop2-again-4 c =
-    let l = c .before .before .before .before .before .before .before in
-    (l .loop2 .inv .0, laid-stays _ _ (l .loop2 .inv .0 .can) (l .loop2 .inv .1) (c .before .before .before .before .before .if3 .left) (inside (c .before .before .before .before)) (sym (c .before .before .is-untouched .ensures) ∙ holds _ (c .before .if6 .left)) (c .if7 .taken))
+    let l = c .before .before .before .before .before .before .before .before .before .before in
+    (l .loop2 .inv .0, laid-stays _ _ (l .loop2 .inv .0 .can) (l .loop2 .inv .1) (c .before .before .before .before .before .before .before .before .if3 .left) (inside (c .before .before .before .before .before .before .before)) (sym (c .before .before .before .before .before .is-untouched .ensures) ∙ holds _ (c .before .before .before .before .if6 .left)) (c .before .before .before .if7 .taken))
+
+loop2-less-5 : tie.Need-loop2-less-5 Inv-loop2 μ-loop2 Inv-loop3 μ-loop3 Inv-loop μ-loop
+loop2-less-5 c = omega (arith, inside (c .before .before .before .before .before .before .before))
+
+loop2-again-5 : tie.Need-loop2-again-5 Inv-loop2 μ-loop2 Inv-loop3 μ-loop3 Inv-loop μ-loop
+loop2-again-5 c =
+    let l = c .before .before .before .before .before .before .before .before .before .before in (
+      l .loop2 .inv .0,
+      laid-rests _ _ (l .loop2 .inv .0 .can) (l .loop2 .inv .1) (c .before .before .before .before .before .before .before .before .if3 .left) (inside (c .before .before .before .before .before .before .before)) (sym (c .before .before .before .before .before .is-untouched .ensures) ∙ holds _ (c .before .before .before .before .if6 .left)) (c .before .before .before .if7 .taken) (c .if8 .left),
+    )
 
 returns-2 : tie.Need-returns-2 Inv-loop2 μ-loop2 Inv-loop3 μ-loop3 Inv-loop μ-loop
 returns-2 c =
@@ -177,7 +187,7 @@ mul-rows-3 : tie.Need-mul-rows-3 Inv-loop2 μ-loop2 Inv-loop3 μ-loop3 Inv-loop 
 mul-rows-3 c = omega (arith, c .before .before .before .before .before .before .before .before .loop2 .inv .1 .front .fits)
 
 array-set-from-rows-2 : tie.Need-array-set-from-rows-2 Inv-loop2 μ-loop2 Inv-loop3 μ-loop3 Inv-loop μ-loop
-array-set-from-rows-2 c = omega (arith, c .before .before .before .before .before .before .before .before .loop2 .inv .1 .front .fits, c .if8 .left)
+array-set-from-rows-2 c = omega (arith, c .before .before .before .before .before .before .before .before .loop2 .inv .1 .front .fits, c .if9 .left)
 
 add-n-3 : tie.Need-add-n-3 Inv-loop2 μ-loop2 Inv-loop3 μ-loop3 Inv-loop μ-loop
 add-n-3 c = omega (arith, c .before .before .before .before .before .before .before .before .loop2 .inv .1 .front .fits)
@@ -185,14 +195,14 @@ add-n-3 c = omega (arith, c .before .before .before .before .before .before .bef
 add-i-4 : tie.Need-add-i-4 Inv-loop2 μ-loop2 Inv-loop3 μ-loop3 Inv-loop μ-loop
 add-i-4 c = omega (arith, inside (c .before .before .before .before .before), c .before .before .before .before .before .before .before .before .loop2 .inv .0 .can .arranged .clean .fits)
 
-loop2-less-5 : tie.Need-loop2-less-5 Inv-loop2 μ-loop2 Inv-loop3 μ-loop3 Inv-loop μ-loop
-loop2-less-5 c = omega (arith, inside (c .before .before .before .before .before))
+loop2-less-6 : tie.Need-loop2-less-6 Inv-loop2 μ-loop2 Inv-loop3 μ-loop3 Inv-loop μ-loop
+loop2-less-6 c = omega (arith, inside (c .before .before .before .before .before))
 
-loop2-again-5 : tie.Need-loop2-again-5 Inv-loop2 μ-loop2 Inv-loop3 μ-loop3 Inv-loop μ-loop
-loop2-again-5 c =
+loop2-again-6 : tie.Need-loop2-again-6 Inv-loop2 μ-loop2 Inv-loop3 μ-loop3 Inv-loop μ-loop
+loop2-again-6 c =
     let l = c .before .before .before .before .before .before .before .before in (
       l .loop2 .inv .0,
-      laid-moves _ _ (l .loop2 .inv .0 .can) (l .loop2 .inv .1) (c .before .before .before .before .before .before .if3 .left) (inside (c .before .before .before .before .before)) (sym (c .before .before .before .is-untouched .ensures) ∙ holds _ (c .before .before .if6 .left)) (omega (arith, l .loop2 .inv .1 .front .fits, c .if8 .left)),
+      laid-moves _ _ (l .loop2 .inv .0 .can) (l .loop2 .inv .1) (c .before .before .before .before .before .before .if3 .left) (inside (c .before .before .before .before .before)) (sym (c .before .before .before .is-untouched .ensures) ∙ holds _ (c .before .before .if6 .left)) (omega (arith, l .loop2 .inv .1 .front .fits, c .if9 .left)),
     )
 
 loop3-holds : tie.Need-loop3-holds Inv-loop2 μ-loop2 Inv-loop3 μ-loop3 Inv-loop μ-loop
@@ -284,13 +294,15 @@ update-time-table-spec =
     add-i-3
     loop2-less-4
     loop2-again-4
+    loop2-less-5
+    loop2-again-5
     returns-2
     mul-rows-3
     array-set-from-rows-2
     add-n-3
     add-i-4
-    loop2-less-5
-    loop2-again-5
+    loop2-less-6
+    loop2-again-6
     loop3-holds
     empty-requires
     mul-rows-4
