@@ -1,5 +1,5 @@
 #!/bin/sh
-# Builds the static library and races it with the Rust original; prints two tables in Markdown.
+# Builds the static library, counts its copies and its stack, and races it with the Rust original; prints two tables in Markdown.
 set -eu
 cd "$(dirname "$0")"
 target=$(cd .. && pwd -P)/target
@@ -10,5 +10,7 @@ else
     PASS_PLANNER=$target/bench/script.o
     (cd .. && sh bench/native.sh "$PASS_PLANNER")
 fi
+${CC:-cc} -std=c99 -D_POSIX_C_SOURCE=200809L -O2 -fno-builtin -Wall -Wextra -Werror -pthread -o "$target/measure" measure.c "$PASS_PLANNER"
+"$target/measure"
 export PASS_PLANNER CARGO_TARGET_DIR="$target/bench"
 cargo run --release --offline

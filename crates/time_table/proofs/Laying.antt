@@ -10,7 +10,7 @@ use native.Mathlib.Omega.{arith}
 use native.Mathlib.Nat.{sub-zero, zero-sub, suc-sub-suc, not-suc-le-zero, le-of-suc-le-suc}
 use native.Mathlib.Numerals.{add-one}
 use borrow.Author.Tests.{lt-ltb, le-ltb, lt-leb, le-leb, leb-true}
-use lib.Dec.{ltb, leb}
+use lib.Dec.{leb}
 use lib.ListN.{length, drop, set, replicate, length-append, drop-of-length-le, replicate-append-replicate}
 use lib.Seq.{drop-cons, getD-take, set-at, append-snoc, drop-drop, drop-at}
 use Rattle.time_table.specs.declared.Row.{Row}
@@ -60,6 +60,13 @@ both : (a b : Bool) → (a && b) ≡ true → (a ≡ true) × (b ≡ true)
 both true b e = (refl, e)
 both false b e = absurd (false≢true e)
 
+starts-behind : (s : Step) (r : Row) → s .part .from ≤ r .end → not (overlaps (s .part .from) (s .part .until) (r .start) (r .end)) ≡ true → s .part .until ≤ r .start
+starts-behind s r ge h =
+    ⊎-elim
+    (λ lt. absurd (false≢true (rw (lt-ltb (r .start) (s .part .until) lt, le-leb (s .part .from) (r .end) ge) at h)))
+    (λ le. le)
+    (lt-or-le (r .start) (s .part .until))
+
 -- a row that a step leaves as it is
 module _ (s : Step) (x : ℕ) (r : Row) (rs : List Row) (some : s .part .from < s .part .until) (low : s .part .from ≤ x) (high : x ≤ s .part .until)
     (order : r .start ≤ r .end) where
@@ -86,26 +93,16 @@ module _ (s : Step) (x : ℕ) (r : Row) (rs : List Row) (some : s .part .from < 
       let done : s .part .until ≤ x = ⊎-elim (λ e. absurd (false≢true e)) (λ h. h) used in
       into (rw (cut-none (alone (s .part)) x (s .part .until) done) at (grown-late (s .part) r x high order le)) (omega arith)
 
-  stepped-untouched : untouched s x r ≡ true → stepped s x (r ∷ rs) ≡ r ∷ stepped s x rs
+  stepped-early : r .end < s .part .from → stepped s x (r ∷ rs) ≡ r ∷ stepped s x rs
   unfolding leaves
-  stepped-untouched e =
-      let apart = both (not (overlaps (s .part .from) (s .part .until) (r .start) (r .end))) _ e in
-      ⊎-elim
-      (λ lt. early lt (s .taking))
-      (λ ge. late (behind ge (apart .0)) (s .taking) (used ge (apart .1)))
-      (lt-or-le (r .end) (s .part .from))
-    where
-      behind : s .part .from ≤ r .end → not (overlaps (s .part .from) (s .part .until) (r .start) (r .end)) ≡ true → s .part .until ≤ r .start
-      behind ge h =
-          ⊎-elim
-          (λ lt. absurd (false≢true (rw (lt-ltb (r .start) (s .part .until) lt, le-leb (s .part .from) (r .end) ge) at h)))
-          (λ le. le)
-          (lt-or-le (r .start) (s .part .until))
+  stepped-early lt = early lt (s .taking)
 
-      used : s .part .from ≤ r .end → (ltb (r .end) (s .part .from) || (s .taking || leb (s .part .until) x)) ≡ true → (s .taking ≡ true) ⊎ (s .part .until ≤ x)
-      used ge h =
-          ⊎-elim (λ t. inl t) (λ u. inr (leb-true (s .part .until) x u))
-          (either (s .taking) (leb (s .part .until) x) (rw (le-ltb (r .end) (s .part .from) ge) at h))
+  stepped-untouched : s .part .from ≤ r .end → untouched s x r ≡ true → stepped s x (r ∷ rs) ≡ r ∷ stepped s x rs
+  unfolding leaves
+  stepped-untouched ge e =
+      let apart = both (not (overlaps (s .part .from) (s .part .until) (r .start) (r .end))) _ e in
+      late (starts-behind s r ge (apart .0)) (s .taking)
+      (⊎-elim (λ t. inl t) (λ u. inr (leb-true (s .part .until) x u)) (either (s .taking) (leb (s .part .until) x) (apart .1)))
 
 -- a row of a table's array, as one of its rows
 row-of : (P : Row → Type 0) (t : Table) (i : ℕ) → Clean t → i < t .count → Each P (rowsOf t) → P (rowAt (t .rows) i)
@@ -149,6 +146,10 @@ module _ {source rows done : List Row} {n : ℕ} (f : Front source rows n done) 
 pub rest : Step → ℕ → Table → ℕ → List Row
 rest s x t i = cond (leb i (t .count)) (stepped s x (drop i (rowsOf t))) []
 
+-- the row i is laid as it is
+pub Stays : Step → Table → ℕ → ℕ → Type 0
+Stays s t x i = stepped s x (rowAt (t .rows) i ∷ drop (i + 1) (rowsOf t)) ≡ rowAt (t .rows) i ∷ stepped s x (drop (i + 1) (rowsOf t))
+
 -- a step of the table t has laid n rows, has come to the instant x and the row i, and has pieces from j on to lay next
 pub record Laid (s : Step) (t : Table) (rows : List Row) (n x i : ℕ) (p : Pieces) (j : ℕ) : Type 0 where
   pub done : List Row
@@ -161,7 +162,7 @@ pub record Laid (s : Step) (t : Table) (rows : List Row) (n x i : ℕ) (p : Piec
   pub joins : done ++ (drop j (piecesIn p) ++ rest s x t i) ≡ stepped s (s .part .from) (rowsOf t)
 
 module _ (s : Step) (t : Table) (can : CanStep s t) where
-  pub laid-start : (none : Pieces) → heldPieces none [] → Laid s t (t .rows) 0 (s .part .from) 0 none 0
+  laid-start : (none : Pieces) → heldPieces none [] → Laid s t (t .rows) 0 (s .part .from) 0 none 0
   unfolding rest
   laid-start none h =
       record {
@@ -268,11 +269,12 @@ module _ (s : Step) (t : Table) (can : CanStep s t) where
               joins = rw (held-list h, rest-next i lt) (rw (rest-here i lt, stepped-cons) at spent);
             }
 
-        module _ (still : untouched s x (rowAt (t .rows) i) ≡ true) where
+        module _ (still : Stays s t x i) where
           onward : (l .done ++ rowAt (t .rows) i ∷ []) ++ rest s x t (i + 1) ≡ stepped s (s .part .from) (rowsOf t)
+          unfolding Stays
           onward =
               rw (append-snoc, rest-next i lt)
-              (rw (rest-here i lt, stepped-untouched s x (rowAt (t .rows) i) (drop (i + 1) (rowsOf t)) (can .some) (l .low) (l .high) (row-lies i lt .0) still) at spent)
+              (rw (rest-here i lt, still) at spent)
 
           behind : {rows' : List Row} → Front (t .rows) rows' (n + 1) (l .done ++ rowAt (t .rows) i ∷ []) → Laid s t rows' (n + 1) x (i + 1) p j
           behind f =
@@ -291,7 +293,7 @@ module _ (s : Step) (t : Table) (can : CanStep s t) where
           pub laid-moves : n < 128 → Laid s t (set rows n (rowAt (t .rows) i)) (n + 1) x (i + 1) p j
           laid-moves room = behind (front-store (l .front) room (rowAt (t .rows) i))
 
-          pub laid-stays : n ≡ i → Laid s t rows (n + 1) x (i + 1) p j
+          laid-stays : n ≡ i → Laid s t rows (n + 1) x (i + 1) p j
           laid-stays e = behind (front-as (front-skip (l .front) (omega (arith, can .arranged .clean .fits))) (ap (λ (k : ℕ). l .done ++ rowAt (t .rows) k ∷ []) e))
 
           pub moves-over : 128 ≤ n → 128 < length (stepped s (s .part .from) (rowsOf t))
@@ -306,32 +308,73 @@ starts-after hi lo (r ∷ rs) zero (suc k) o le lt = omega (arith, ordered-at hi
 starts-after hi lo (r ∷ rs) (suc i) zero o le lt = absurd (not-suc-le-zero le)
 starts-after hi lo (r ∷ rs) (suc i) (suc k) o le lt = starts-after hi (r .end + 1) rs i k (o .3) (le-of-suc-le-suc le) (le-of-suc-le-suc lt)
 
+-- and none ends before an earlier one
+ends-after : (hi lo : ℕ) (rows : List Row) (i k : ℕ) → Ordered hi lo rows → i ≤ k → k < length rows → rowAt rows i .end ≤ rowAt rows k .end
+unfolding Ordered
+ends-after hi lo [] i k o le lt = absurd (not-suc-le-zero lt)
+ends-after hi lo (r ∷ rs) zero zero o le lt = omega arith
+ends-after hi lo (r ∷ rs) zero (suc k) o le lt = omega (arith, ordered-at hi (r .end + 1) rs k (le-of-suc-le-suc lt) (o .3))
+ends-after hi lo (r ∷ rs) (suc i) zero o le lt = absurd (not-suc-le-zero le)
+ends-after hi lo (r ∷ rs) (suc i) (suc k) o le lt = ends-after hi (r .end + 1) rs i k (o .3) (le-of-suc-le-suc le) (le-of-suc-le-suc lt)
+
 module _ (s : Step) (t : Table) (can : CanStep s t) where
-  -- behind a row that starts behind the part and stays, all rows stay
-  all-stay : (x i : ℕ) → i < t .count → s .part .until ≤ rowAt (t .rows) i .start → untouched s x (rowAt (t .rows) i) ≡ true
-      → (k : ℕ) → i ≤ k → k < t .count → untouched s x (rowAt (t .rows) k) ≡ true
-  all-stay x i lt late e k le inside =
-      let there : rowAt (t .rows) i .start ≤ rowAt (t .rows) k .start =
-      rw (← (getD-take (t .count) (t .rows) i noRow lt), ← (getD-take (t .count) (t .rows) k noRow inside))
-      (starts-after ticks 0 (rowsOf t) i k (can .arranged .ordered) le (omega (arith, can .arranged .clean .counts))) in
-      let here = row-lies s t can i lt in
-      let far = row-lies s t can k inside in
-      let done = both (not (overlaps (s .part .from) (s .part .until) (rowAt (t .rows) i .start) (rowAt (t .rows) i .end))) _ e .1 in
-      rw (le-ltb (rowAt (t .rows) k .start) (s .part .until) (omega (arith, late, there)), le-ltb (rowAt (t .rows) k .end) (s .part .from) (omega (arith, can .some, late, there, far)))
-      (rw (le-ltb (rowAt (t .rows) i .end) (s .part .from) (omega (arith, can .some, late, here))) at done)
+  -- rows of a table, in their order
+  module _ (i k : ℕ) (le : i ≤ k) (lt : k < t .count) where
+    in-order : (f : Row → ℕ) → f (rowAt (rowsOf t) i) ≤ f (rowAt (rowsOf t) k) → f (rowAt (t .rows) i) ≤ f (rowAt (t .rows) k)
+    in-order f h = rw (← (getD-take (t .count) (t .rows) i noRow (omega arith)), ← (getD-take (t .count) (t .rows) k noRow lt)) h
 
-  go-on : (m : ℕ) {rows : List Row} {n x i j : ℕ} {p : Pieces} → Laid s t rows n x i p j → p .count ≤ j → n ≡ i → i + m ≡ t .count
-      → ((k : ℕ) → i ≤ k → k < t .count → untouched s x (rowAt (t .rows) k) ≡ true) → Laid s t rows (t .count) x (t .count) p j
-  go-on zero {n = n} {i = i} l none e f all =
-      let at-end : i ≡ t .count = omega arith in
-      let all-laid : n ≡ t .count = omega arith in
-      rw (all-laid, at-end) at l
-  go-on (suc m) {i = i} l none e f all =
-      go-on m (laid-stays s t can l none (omega arith) (all i (omega arith) (omega arith)) e) none (omega arith) (omega arith) (λ k le lt. all k (omega arith) lt)
+    inside : k < length (rowsOf t)
+    inside = omega (arith, can .arranged .clean .counts)
 
-  pub laid-rests : {rows : List Row} {n x i j : ℕ} {p : Pieces} → Laid s t rows n x i p j → p .count ≤ j → i < t .count
-      → untouched s x (rowAt (t .rows) i) ≡ true → n ≡ i → s .part .until ≤ rowAt (t .rows) i .start → Laid s t rows (t .count) x (t .count) p j
-  laid-rests {x = x} {i = i} l none lt e same late = go-on (t .count - i) l none same (omega arith) (all-stay x i lt late e)
+    pub later-start : rowAt (t .rows) i .start ≤ rowAt (t .rows) k .start
+    later-start = in-order (λ r. r .start) (starts-after ticks 0 (rowsOf t) i k (can .arranged .ordered) le inside)
+
+    pub later-end : rowAt (t .rows) i .end ≤ rowAt (t .rows) k .end
+    later-end = in-order (λ r. r .end) (ends-after ticks 0 (rowsOf t) i k (can .arranged .ordered) le inside)
+
+  -- rows that stay, one after another
+  go-on : (m : ℕ) {rows : List Row} {n x i j : ℕ} {p : Pieces} → Laid s t rows n x i p j → p .count ≤ j → n ≡ i → i + m ≤ t .count
+      → ((k : ℕ) → i ≤ k → k < i + m → Stays s t x k) → Laid s t rows (i + m) x (i + m) p j
+  go-on zero {i = i} l none e le all =
+      let same : i + 0 ≡ i = omega arith in
+      rw same (rw e at l)
+  go-on (suc m) {i = i} l none e le all =
+      let same : i + suc m ≡ i + 1 + m = omega arith in
+      rw same (go-on m (laid-stays s t can l none (omega arith) (all i (omega arith) (omega arith)) e) none (omega arith) (omega arith) (λ k low high. all k (omega arith) (omega arith)))
+
+  -- those that end before the part, at the start
+  pub laid-from : (first : ℕ) (none : Pieces) → heldPieces none [] → first ≤ t .count → ((k : ℕ) → k < first → rowAt (t .rows) k .end < s .part .from)
+      → Laid s t (t .rows) first (s .part .from) first none 0
+  unfolding Stays
+  laid-from first none h le early =
+      let same : 0 + first ≡ first = omega arith in
+      rw same at
+      (go-on first (laid-start s t can none h) (omega (arith, h .counts)) refl (omega arith)
+      (λ k low lt. stepped-early s (s .part .from) (rowAt (t .rows) k) (drop (k + 1) (rowsOf t)) (can .some) (omega arith) (omega (arith, can .some)) (row-lies s t can k (omega arith) .0) (early k (omega arith))))
+
+  -- a row that the part does not touch
+  pub row-stays : {rows : List Row} {n x i j : ℕ} {p : Pieces} → Laid s t rows n x i p j → i < t .count → s .part .from ≤ rowAt (t .rows) i .end
+      → untouched s x (rowAt (t .rows) i) ≡ true → Stays s t x i
+  unfolding Stays
+  row-stays {x = x} {i = i} l lt ge e =
+      stepped-untouched s x (rowAt (t .rows) i) (drop (i + 1) (rowsOf t)) (can .some) (l .low) (l .high) (row-lies s t can i lt .0) ge e
+
+  -- and all rows behind it
+  pub laid-rests : {rows : List Row} {n x i j : ℕ} {p : Pieces} → Laid s t rows n x i p j → p .count ≤ j → i < t .count → s .part .from ≤ rowAt (t .rows) i .end
+      → untouched s x (rowAt (t .rows) i) ≡ true → n ≡ i → Laid s t rows (t .count) x (t .count) p j
+  unfolding Stays
+  laid-rests {x = x} {i = i} l none lt ge e same =
+      let whole : i + (t .count - i) ≡ t .count = omega arith in
+      let apart = both (not (overlaps (s .part .from) (s .part .until) (rowAt (t .rows) i .start) (rowAt (t .rows) i .end))) _ e in
+      let late = starts-behind s (rowAt (t .rows) i) ge (apart .0) in
+      rw whole at
+      (go-on (t .count - i) l none same (omega arith)
+      (λ k low high.
+      let here : k < t .count = omega arith in
+      let start : s .part .until ≤ rowAt (t .rows) k .start = omega (arith, late, later-start i k low here) in
+      let end : s .part .from ≤ rowAt (t .rows) k .end = omega (arith, ge, later-end i k low here) in
+      stepped-untouched s x (rowAt (t .rows) k) (drop (k + 1) (rowsOf t)) (can .some) (l .low) (l .high) (row-lies s t can k here .0) end
+      (rw (le-ltb (rowAt (t .rows) k .start) (s .part .until) start) (apart .1))))
 
 -- the places behind the rows are cleared, as far as the old rows went
 drop-replicate : {A : Type 0} (k m : ℕ) (a : A) → drop k (replicate m a) ≡ replicate (m - k) a

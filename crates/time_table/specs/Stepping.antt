@@ -33,10 +33,9 @@ made s x r = cond (s .taking) (reduced (s .part) r) (grown (startedAt (s .part) 
 abbrev pub madeLast : Step → ℕ → List Row
 madeLast s x = cond (s .taking) [] (cut (alone (s .part)) x (s .part .until))
 
--- a row that the part does not overlap and before which nothing is left to be laid: it ends before the part, or the part is taken out or laid
+-- of rows that do not end before the part: one that the part does not overlap, where the part is taken out or is laid already
 abbrev pub untouched : Step → ℕ → Row → Bool
-untouched s x r =
-    not (overlaps (s .part .from) (s .part .until) (r .start) (r .end)) && (ltb (r .end) (s .part .from) || (s .taking || leb (s .part .until) x))
+untouched s x r = not (overlaps (s .part .from) (s .part .until) (r .start) (r .end)) && (s .taking || leb (s .part .until) x)
 
 -- a step can be made on a row
 pub record Changeable (s : Step) (x : ℕ) (r : Row) : Type 0 where

@@ -39,16 +39,14 @@ pub(crate) fn step_at(adjustments: MandatoryPartAdjustments, k: usize) -> Step
     }
 }
 
-// Whether a step that has come to the instant `from` leaves a row as it is, with nothing before it.
+// Whether a step that has come to the instant `from` leaves a row that does not end before its part as
+// it is, with nothing before it.
 pub(crate) fn is_untouched(step: Step, from: u32, profile: Row) -> bool
     ensures { λ r. ⌜ r ≡ untouched step from profile ⌝ }
 {
     let part = step.part;
     if has_overlap_with_interval(part.from, part.until, profile.start, profile.end) {
         return false;
-    }
-    if profile.end < part.from {
-        return true;
     }
     if step.taking {
         return true;

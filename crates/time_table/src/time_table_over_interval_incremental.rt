@@ -19,9 +19,10 @@ pub struct Conflict {
 }
 
 // The table of a task's old mandatory part turned into that of its new one, or over: first what is
-// removed, then what is added. Each part goes over the rows once: it reads them from `source`, writes
-// what becomes of them, and clears the places of old rows that are left behind. One function does it
-// all, since to hand the rows to another would copy them.
+// removed, then what is added. Each part finds the first row that does not end before it, by halving,
+// and goes on from there: it reads the rows from `source` at `i`, writes what becomes of them at `n`,
+// and clears the places of old rows that are left behind. One function does it all, since to hand the
+// rows to another would copy them.
 pub fn update_time_table(table: Table, old: Part, new: Part) -> Edited
     requires { ⌜ Updatable old new table ⌝ }
     ensures { λ r. ⌜ r ≡ updated old new table ⌝ }
@@ -37,10 +38,22 @@ pub fn update_time_table(table: Table, old: Part, new: Part) -> Edited
         let mut from = step.part.from;
         let mut laid = Pieces::none();
         let mut j = 0;
-        let mut i = 0;
-        let mut n = 0;
+        let mut low = 0;
+        let mut high = count;
+        while low < high {
+            let middle = low + (high - low) / 2;
+            let row = source[middle];
+            if row.end < step.part.from {
+                low = middle + 1;
+            } else {
+                high = middle;
+            }
+        }
+        let mut i = low;
+        let mut n = low;
         while i <= count || j < laid.count {
             if j < laid.count {
+                // a piece of the row before is still to be written
                 if n == Table::ROWS {
                     return Edited { table, over: true };
                 }
@@ -48,24 +61,22 @@ pub fn update_time_table(table: Table, old: Part, new: Part) -> Edited
                 n += 1;
                 j += 1;
             } else if i == count {
+                // what of the part lies behind the last row
                 laid = part_by_part::last_profile(step, from);
                 j = 0;
                 i += 1;
             } else {
                 let row = source[i];
+                // a row that the part changes; else one that stays in its place, and so do all behind
+                // it; else one that moves
                 if !part_by_part::is_untouched(step, from, row) {
                     laid = part_by_part::changed_profile(step, from, row);
                     j = 0;
                     from = part_by_part::instant_behind(step.part, from, row);
                     i += 1;
                 } else if n == i {
-                    if row.start < step.part.until {
-                        n += 1;
-                        i += 1;
-                    } else {
-                        n = count;
-                        i = count;
-                    }
+                    n = count;
+                    i = count;
                 } else {
                     if n == Table::ROWS {
                         return Edited { table, over: true };
