@@ -14,3 +14,4 @@ pub mod Serving
 pub mod Transcript
 pub mod Examples
 pub mod Unique
+pub mod Listing

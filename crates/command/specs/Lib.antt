@@ -5,3 +5,4 @@ pub mod Text
 pub mod Written
 pub mod Sessions
 pub mod Lines
+pub mod Listing

@@ -14,7 +14,8 @@ use Rattle.time_table.specs.declared.Part.{Part}
 use Rattle.time_table.specs.Order.{ticks}
 use Rattle.time_table.specs.Adjustments.{stretch, removedParts, addedParts}
 use Rattle.time_table.specs.Meaning.{Runs, bit, has, Right, Within, With}
-use Rattle.time_table.specs.Update.{moved, updatedRows, Puts, Takes, Steps}
+use Rattle.time_table.specs.Update.{moved, updatedRows}
+use Rattle.time_table.proofs.Editing.{Puts, Takes, Steps}
 use Rattle.time_table.proofs.Adjusted.{stretch-none, stretch-some}
 use Rattle.time_table.proofs.Left.{left}
 use Rattle.time_table.proofs.Sums.{has-none, lt-or-le}

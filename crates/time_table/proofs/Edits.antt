@@ -17,9 +17,10 @@ use Rattle.time_table.specs.declared.mandatory_part_adjustments.Parts.{P
 use Rattle.time_table.specs.Rows.{rowsOf, tableOf, Clean}
 use Rattle.time_table.specs.Table.{verdict}
 use Rattle.time_table.specs.Adjustments.{emptyPart, heldParts, partsIn}
-use Rattle.time_table.specs.Insertion.{insertion, CanInsert}
-use Rattle.time_table.specs.Removal.{removal, CanRemove}
-use Rattle.time_table.specs.Update.{after, overAfter, Puts, Takes, Editable}
+use Rattle.time_table.specs.Insertion.{insertion}
+use Rattle.time_table.specs.Removal.{removal}
+use Rattle.time_table.specs.Update.{after, overAfter}
+use Rattle.time_table.proofs.Editing.{CanInsert, CanRemove, Puts, Takes, Editable}
 use Rattle.time_table.proofs.Held.{held-as}
 use Rattle.time_table.proofs.EditRight.{insertion-right, removal-right}
 use Rattle.time_table.proofs.Steps.{can-insert, can-remove}

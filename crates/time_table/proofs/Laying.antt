@@ -24,7 +24,8 @@ use Rattle.time_table.specs.Pieces.{heldPieces, piecesIn}
 use Rattle.time_table.specs.Overlap.{overlaps}
 use Rattle.time_table.specs.Insertion.{alone, grown, startedAt, pastRow, insertion, Insertable}
 use Rattle.time_table.specs.Removal.{reduced, removal, Removable}
-use Rattle.time_table.specs.Stepping.{stepped, made, madeLast, untouched, Changeable, CanStep}
+use Rattle.time_table.specs.Stepping.{made, madeLast, untouched, Changeable}
+use Rattle.time_table.proofs.Editing.{stepped, CanStep}
 use Rattle.time_table.proofs.Held.{held-length, held-list, held-self}
 use Rattle.time_table.proofs.Cut.{cut-none}
 use Rattle.time_table.proofs.AtRow.{each-at, ordered-at}

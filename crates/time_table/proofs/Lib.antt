@@ -22,6 +22,7 @@ pub mod RowSound
 pub mod EditRight
 pub mod Adjusted
 pub mod Left
+pub mod Editing
 pub mod Steps
 pub mod AdjustedRight
 pub mod Demanded

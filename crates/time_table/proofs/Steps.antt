@@ -7,10 +7,11 @@ use Rattle.time_table.specs.declared.Row.{Row}
 use Rattle.time_table.specs.declared.Part.{Part}
 use Rattle.time_table.specs.declared.Table.{Table}
 use Rattle.time_table.specs.Rows.{rowsOf, Clean}
-use Rattle.time_table.specs.Insertion.{insertion, CanInsert}
-use Rattle.time_table.specs.Removal.{removal, CanRemove}
+use Rattle.time_table.specs.Insertion.{insertion}
+use Rattle.time_table.specs.Removal.{removal}
 use Rattle.time_table.specs.Meaning.{Runs, Right, Within, PartOf}
-use Rattle.time_table.specs.Update.{after, Puts, Takes, Steps}
+use Rattle.time_table.specs.Update.{after}
+use Rattle.time_table.proofs.Editing.{CanInsert, CanRemove, Puts, Takes, Steps}
 use Rattle.time_table.proofs.EditRight.{each-insertable, each-removable, insertion-right, removal-right}
 
 pub right-as : (a b : Runs) (usage : ℕ → ℕ) (rows : List Row) → ((i t : ℕ) → a i t ≡ b i t) → Right a usage rows → Right b usage rows

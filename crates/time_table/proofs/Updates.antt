@@ -18,7 +18,8 @@ use Rattle.time_table.specs.Adjustments.{stretch, leftOf, partsOf, parts
 use Rattle.time_table.specs.Insertion.{insertion}
 use Rattle.time_table.specs.Removal.{removal}
 use Rattle.time_table.specs.Meaning.{has, Right}
-use Rattle.time_table.specs.Update.{updateOver, updatedRows, moved, after, overAfter, updated, Puts, Takes, Editable, Updatable}
+use Rattle.time_table.specs.Update.{updateOver, updatedRows, moved, after, overAfter, updated, Updatable}
+use Rattle.time_table.proofs.Editing.{Puts, Takes, Editable}
 use Rattle.time_table.proofs.Held.{held-as}
 use Rattle.time_table.proofs.Adjusted.{stretch-none, stretch-some}
 use Rattle.time_table.proofs.Left.{left}

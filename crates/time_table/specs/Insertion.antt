@@ -5,9 +5,7 @@ use mathlib.Core.List.{List, [], _∷_, _++_}
 use Prim.Native.Nat.{ℕ, _+_, _<_, _^_, min, max}
 use Rattle.time_table.specs.declared.Row.{Row}
 use Rattle.time_table.specs.declared.Part.{Part}
-use Rattle.time_table.specs.declared.Table.{Table}
-use Rattle.time_table.specs.Rows.{rowOf, tasks, Listed, rowsOf, cut}
-use Rattle.time_table.specs.Order.{Each, Arranged}
+use Rattle.time_table.specs.Rows.{rowOf, tasks, Listed, cut}
 use Rattle.time_table.specs.Pieces.{beforePart, afterPart}
 
 -- the task alone
@@ -46,9 +44,3 @@ pub record Insertable (p : Part) (r : Row) : Type 0 where
   pub listed : Listed r
   pub room : r .end + 1 < 2 ^ 32
   pub there : max (p .from) (r .start) < min (p .until) (r .end + 1) → (r .count < 32) × (r .height + p .usage < 2 ^ 32)
-
--- a part, of some instants, can be put into a table
-pub record CanInsert (p : Part) (t : Table) : Type 0 where
-  pub arranged : Arranged t
-  pub some : p .from < p .until
-  pub each : Each (Insertable p) (rowsOf t)

@@ -7,9 +7,7 @@ use lib.Dec.{eqb}
 use lib.ListN.{length, take, getD, set}
 use Rattle.time_table.specs.declared.Row.{Row}
 use Rattle.time_table.specs.declared.Part.{Part}
-use Rattle.time_table.specs.declared.Table.{Table}
-use Rattle.time_table.specs.Rows.{rowOf, tasks, Listed, rowsOf, cut}
-use Rattle.time_table.specs.Order.{Each, Arranged}
+use Rattle.time_table.specs.Rows.{rowOf, tasks, Listed, cut}
 use Rattle.time_table.specs.Pieces.{beforePart, afterPart}
 
 -- the place of the first `id` in a list, and the list's length if it has none
@@ -44,9 +42,3 @@ pub record Removable (p : Part) (r : Row) : Type 0 where
   pub listed : Listed r
   pub room : r .end + 1 < 2 ^ 32
   pub there : max (p .from) (r .start) < min (p .until) (r .end + 1) → (position (p .id) (tasks r) < r .count) × (p .usage ≤ r .height)
-
--- a part, of some instants, can be taken out of a table
-pub record CanRemove (p : Part) (t : Table) : Type 0 where
-  pub arranged : Arranged t
-  pub some : p .from < p .until
-  pub each : Each (Removable p) (rowsOf t)

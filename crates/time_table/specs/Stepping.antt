@@ -2,19 +2,17 @@
 use mathlib.Core.Path.{_≡_}
 use mathlib.Core.Bool.{Bool, true, false, cond, not, _&&_, _||_}
 use mathlib.Core.List.{List, []}
-use Prim.Native.Nat.{ℕ, _-_, _<_}
+use Prim.Native.Nat.{ℕ, _-_}
 use lib.Dec.{ltb, leb}
 use lib.ListN.{getD}
 use Rattle.time_table.specs.declared.Row.{Row}
-use Rattle.time_table.specs.declared.Table.{Table}
 use Rattle.time_table.specs.declared.part_by_part.Step.{Step}
 use Rattle.time_table.specs.declared.mandatory_part_adjustments.MandatoryPartAdjustments.{MandatoryPartAdjustments}
-use Rattle.time_table.specs.Rows.{rowsOf, cut}
-use Rattle.time_table.specs.Order.{Each, Arranged}
+use Rattle.time_table.specs.Rows.{cut}
 use Rattle.time_table.specs.Adjustments.{emptyPart}
 use Rattle.time_table.specs.Overlap.{overlaps}
-use Rattle.time_table.specs.Insertion.{alone, grown, startedAt, insertion, Insertable}
-use Rattle.time_table.specs.Removal.{reduced, removal, Removable}
+use Rattle.time_table.specs.Insertion.{alone, grown, startedAt, Insertable}
+use Rattle.time_table.specs.Removal.{reduced, Removable}
 
 -- the steps by number: first the parts that are removed, then those that are added
 abbrev pub stepAt : MandatoryPartAdjustments → ℕ → Step
@@ -22,11 +20,7 @@ stepAt a k =
     cond (ltb k (a .removed .count)) (record { part = getD (a .removed .parts) k emptyPart; taking = true })
     (record { part = getD (a .added .parts) (k - a .removed .count) emptyPart; taking = false })
 
--- what a step makes of rows, where its part has come to the instant x
-abbrev pub stepped : Step → ℕ → List Row → List Row
-stepped s x rows = cond (s .taking) (removal (s .part) rows) (insertion (startedAt (s .part) x) rows)
-
--- of one row; and behind the last
+-- what a step makes of a row, where its part has come to the instant x; and behind the last
 abbrev pub made : Step → ℕ → Row → List Row
 made s x r = cond (s .taking) (reduced (s .part) r) (grown (startedAt (s .part) x) r)
 
@@ -41,10 +35,3 @@ untouched s x r = not (overlaps (s .part .from) (s .part .until) (r .start) (r .
 pub record Changeable (s : Step) (x : ℕ) (r : Row) : Type 0 where
   pub out : s .taking ≡ true → Removable (s .part) r
   pub into : s .taking ≡ false → Insertable (startedAt (s .part) x) r
-
--- and on a table
-pub record CanStep (s : Step) (t : Table) : Type 0 where
-  pub arranged : Arranged t
-  pub some : s .part .from < s .part .until
-  pub out : s .taking ≡ true → Each (Removable (s .part)) (rowsOf t)
-  pub into : s .taking ≡ false → Each (Insertable (s .part)) (rowsOf t)

@@ -16,7 +16,7 @@ use Rattle.time_table.specs.Table.{verdict}
 use Rattle.time_table.specs.Adjustments.{removedParts, addedParts}
 use Rattle.time_table.specs.Insertion.{insertion}
 use Rattle.time_table.specs.Removal.{removal}
-use Rattle.time_table.specs.Meaning.{Runs, has, Right, Within, PartOf, With}
+use Rattle.time_table.specs.Meaning.{Runs, has, Right, Within}
 
 -- the rows after an edit by each of these parts, one after another
 unfoldable pub after : (Part → List Row → List Row) → List Part → List Row → List Row
@@ -42,36 +42,6 @@ updated old new t = verdict (updateOver old new (rowsOf t)) t (updatedRows old n
 -- the same tasks run, but for the task id, which runs where b says
 abbrev pub moved : ℕ → (ℕ → Bool) → Runs → Runs
 moved id b runs i t = cond (eqb id i) (b t) (runs i t)
-
--- what an insertion does to what runs, and a removal
-abbrev pub Puts : Part → Runs → Runs → Type 0
-Puts p runs next = With p runs next
-
-abbrev pub Takes : Part → Runs → Runs → Type 0
-Takes p runs next = With p next runs
-
--- one edit, after which R goes on
-pub record Step (E : Part → Runs → Runs → Type 0) (usage : ℕ → ℕ) (runs : Runs) (p : Part) (R : Runs → Type 0) : Type 0 where
-  pub next : Runs
-  pub of : PartOf usage p
-  pub goes : E p runs next
-  pub within : Within next usage
-  pub rest : R next
-
--- edits by these parts, one after another, lead from `runs` to `last`
-abbrev pub Steps : (Part → Runs → Runs → Type 0) → (ℕ → ℕ) → Runs → List Part → Runs → Type 0
-Steps E usage runs [] last = (i t : ℕ) → runs i t ≡ last i t
-Steps E usage runs (p ∷ ps) last = Step E usage runs p (λ (next : Runs). Steps E usage next ps last)
-
--- a table that is right, and these edits of it
-pub record Editable (E : Part → Runs → Runs → Type 0) (ps : List Part) (t : Table) : Type 0 where
-  pub runs : Runs
-  pub usage : ℕ → ℕ
-  pub last : Runs
-  pub clean : Clean t
-  pub right : Right runs usage (rowsOf t)
-  pub within : Within runs usage
-  pub steps : Steps E usage runs ps last
 
 -- a table that is right for the old part of a task, of which the new part is another
 pub record Updatable (old new : Part) (t : Table) : Type 0 where
