@@ -113,6 +113,8 @@ int main(void)
     show("copies of the table in a load", 2, (int32_t[]){PASS_PLANNER_LOAD, 5}, (int32_t[]){PASS_PLANNER_LOAD, 5});
     show("copies of the table in a first fit", 2, (int32_t[]){PASS_PLANNER_FIRST_FIT, 8},
          (int32_t[]){PASS_PLANNER_FIRST_FIT, 8});
+    show("copies of the table in a refused update", 4, (int32_t[]){PASS_PLANNER_UPDATE, -1, 0, 0},
+         (int32_t[]){PASS_PLANNER_UPDATE, -1, 0, 0});
     length = 0;
     load();
     command(4, (int32_t[]){PASS_PLANNER_UPDATE, 8, 11, 11});

@@ -34,6 +34,14 @@ ordered-at hi lo (r ∷ rs) (suc k) lt o =
     let w = ordered-at hi (r .end + 1) rs k (le-of-suc-le-suc lt) (o .3) in
     (omega arith, w .1, w .2)
 
+-- of two rows the later starts after the earlier has ended
+pub ordered-apart : (hi lo : ℕ) (rows : List Row) (j k : ℕ) → Ordered hi lo rows → j < k → k < length rows → rowAt rows j .end < rowAt rows k .start
+unfolding Ordered
+ordered-apart hi lo [] j k o lt in-it = absurd (not-suc-le-zero in-it)
+ordered-apart hi lo (r ∷ rs) j zero o lt in-it = absurd (not-suc-le-zero lt)
+ordered-apart hi lo (r ∷ rs) zero (suc k) o lt in-it = omega (arith, ordered-at hi (r .end + 1) rs k (le-of-suc-le-suc in-it) (o .3))
+ordered-apart hi lo (r ∷ rs) (suc j) (suc k) o lt in-it = ordered-apart hi (r .end + 1) rs j k (o .3) (le-of-suc-le-suc lt) (le-of-suc-le-suc in-it)
+
 module _ (f : Row → ℕ) (t : ℕ) where
   pub summed-before : (hi lo : ℕ) (rows : List Row) → Ordered hi lo rows → t < lo → summed f t rows ≡ 0
   unfolding summed Ordered

@@ -6,27 +6,19 @@ use mathlib.Core.Bool.{Bool, false, true≢false}
 use mathlib.Core.Logic.{_⊎_, inl, inr, ⊎-elim}
 use mathlib.Core.List.{List, [], _∷_}
 use Prim.Native.Nat.{ℕ, zero, suc, _+_, _≤_, _<_}
-use native.Mathlib.Nat.{not-suc-le-zero, le-of-suc-le-suc}
+use native.Mathlib.Nat.{not-suc-le-zero}
 use native.Mathlib.Omega.{arith}
 use borrow.Author.Tests.{eq-eqb}
 use lib.ListN.{length}
 use Rattle.time_table.specs.declared.Row.{Row}
 use Rattle.time_table.specs.Rows.{tasks, rowAt}
-use Rattle.time_table.specs.Order.{Ordered, ticks}
+use Rattle.time_table.specs.Order.{ticks}
 use Rattle.time_table.specs.Meaning.{bit, summed, one, total, occurs, heightAt, Sound, Right}
 use Rattle.time_table.specs.Demand.{drawAt, In, RowOf, Demanded}
 use Rattle.time_table.proofs.Sums.{has-below, has-above, by-place}
-use Rattle.time_table.proofs.AtRow.{each-at, ordered-at, summed-at}
+use Rattle.time_table.proofs.AtRow.{each-at, ordered-at, summed-at, ordered-apart}
 use Rattle.time_table.proofs.Draws.{total-drawn}
 use Rattle.time_table.proofs.EditRight.{lists, cond-false}
-
--- of two rows the later starts after the earlier has ended
-ordered-apart : (hi lo : ℕ) (rows : List Row) (j k : ℕ) → Ordered hi lo rows → j < k → k < length rows → rowAt rows j .end < rowAt rows k .start
-unfolding Ordered
-ordered-apart hi lo [] j k o lt in-it = absurd (not-suc-le-zero in-it)
-ordered-apart hi lo (r ∷ rs) j zero o lt in-it = absurd (not-suc-le-zero lt)
-ordered-apart hi lo (r ∷ rs) zero (suc k) o lt in-it = omega (arith, ordered-at hi (r .end + 1) rs k (le-of-suc-le-suc in-it) (o .3))
-ordered-apart hi lo (r ∷ rs) (suc j) (suc k) o lt in-it = ordered-apart hi (r .end + 1) rs j k (o .3) (le-of-suc-le-suc lt) (le-of-suc-le-suc in-it)
 
 -- an instant is in a row, or adds nothing to any sum
 row-or-none : (t : ℕ) (rows : List Row) → RowOf rows t ⊎ ((f : Row → ℕ) → summed f t rows ≡ 0)

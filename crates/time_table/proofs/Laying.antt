@@ -1,25 +1,22 @@
--- A step of an update goes from row to row: what it has laid, and what it makes of the rows that are left, are what it makes of all rows. It reads
--- the rows as they were and writes to a copy of them, so what is laid stands before what the copy had from there on.
+-- A step of an update goes from row to row: what it has laid, and what it makes of the rows that are left, are what it makes of all rows.
 -- Assumes nothing.
-use mathlib.Core.Path.{_≡_, refl, sym, ap, _∙_}
+use mathlib.Core.Path.{_≡_, refl, ap}
 use mathlib.Core.Bool.{Bool, true, false, cond, not, _&&_, _||_, false≢true}
 use mathlib.Core.Logic.{_⊎_, inl, inr, ⊎-elim}
-use mathlib.Core.List.{List, [], _∷_, _++_, append-assoc, append-nil}
+use mathlib.Core.List.{List, [], _∷_, _++_, append-nil}
 use Prim.Native.Nat.{ℕ, zero, suc, _+_, _-_, _≤_, _<_, _^_}
 use native.Mathlib.Omega.{arith}
-use native.Mathlib.Nat.{sub-zero, zero-sub, suc-sub-suc, not-suc-le-zero, le-of-suc-le-suc}
 use native.Mathlib.Numerals.{add-one}
 use borrow.Author.Tests.{lt-ltb, le-ltb, lt-leb, le-leb, leb-true}
 use lib.Dec.{leb}
-use lib.ListN.{length, drop, set, replicate, length-append, drop-of-length-le, replicate-append-replicate}
-use lib.Seq.{drop-cons, getD-take, set-at, append-snoc, drop-drop, drop-at}
+use lib.ListN.{length, drop, set, length-append, drop-of-length-le}
+use lib.Seq.{drop-cons, getD-take, append-snoc}
 use Rattle.time_table.specs.declared.Row.{Row}
 use Rattle.time_table.specs.declared.Table.{Table}
 use Rattle.time_table.specs.declared.pieces.Pieces.{Pieces}
 use Rattle.time_table.specs.declared.part_by_part.Step.{Step}
-use Rattle.time_table.specs.Held.{Held}
-use Rattle.time_table.specs.Rows.{emptyRow, noRow, rowAt, rowsOf, Clean, cut}
-use Rattle.time_table.specs.Order.{Each, Ordered, ticks}
+use Rattle.time_table.specs.Rows.{noRow, rowAt, rowsOf, Clean, cut}
+use Rattle.time_table.specs.Order.{Each, ticks}
 use Rattle.time_table.specs.Pieces.{heldPieces, piecesIn}
 use Rattle.time_table.specs.Overlap.{overlaps}
 use Rattle.time_table.specs.Insertion.{alone, grown, startedAt, pastRow, insertion, Insertable}
@@ -28,7 +25,8 @@ use Rattle.time_table.specs.Stepping.{made, madeLast, untouched, Changea
 use Rattle.time_table.proofs.Editing.{stepped, CanStep}
 use Rattle.time_table.proofs.Held.{held-length, held-list, held-self}
 use Rattle.time_table.proofs.Cut.{cut-none}
-use Rattle.time_table.proofs.AtRow.{each-at, ordered-at}
+use Rattle.time_table.proofs.AtRow.{each-at, ordered-at, ordered-apart}
+use Rattle.time_table.proofs.Front.{Front, front-as, front-store, front-skip}
 use Rattle.time_table.proofs.Heightened.{insertable-later}
 use Rattle.time_table.proofs.Apart.{reduced-early, reduced-late, grown-early, grown-late}
 use Rattle.time_table.proofs.Sums.{lt-or-le}
@@ -110,38 +108,6 @@ row-of : (P : Row → Type 0) (t : Table) (i : ℕ) → Clean t → i < t .count
 row-of P t i h lt all =
     let within : i < length (rowsOf t) = omega (arith, h .counts) in
     rw (← (getD-take (t .count) (t .rows) i noRow lt)) (each-at P (rowsOf t) i within all)
-
--- the first n of the rows are `done`, and from there on they are those of another list
-pub record Front (source rows : List Row) (n : ℕ) (done : List Row) : Type 0 where
-  pub is : rows ≡ done ++ drop n source
-  pub counts : n ≡ length done
-  pub size : length source ≡ 128
-  pub fits : n ≤ 128
-
-module _ {source rows done : List Row} {n : ℕ} (f : Front source rows n done) where
-  front-as : {l : List Row} → done ≡ l → Front source rows n l
-  front-as e = rw e at f
-
-  opened : n < 128 → rows ≡ done ++ rowAt source n ∷ drop (n + 1) source
-  opened lt =
-      let inside : n < length source = omega (arith, f .size) in
-      f .is ∙ rw (add-one n) (ap (λ (l : List Row). done ++ l) (drop-cons source n noRow inside))
-
-  longer : (x : Row) → n + 1 ≡ length (done ++ x ∷ [])
-  longer x = rw length-append (omega (arith, f .counts))
-
-  -- one more stored; or left where it is
-  front-store : n < 128 → (x : Row) → Front source (set rows n x) (n + 1) (done ++ x ∷ [])
-  front-store lt x =
-      record {
-        is = rw (opened lt, append-snoc) (set-at done _ _ x n (sym (f .counts)));
-        counts = longer x;
-        size = f .size;
-        fits = omega arith;
-      }
-
-  front-skip : n < 128 → Front source rows (n + 1) (done ++ rowAt source n ∷ [])
-  front-skip lt = record { is = rw append-snoc (opened lt); counts = longer (rowAt source n); size = f .size; fits = omega arith }
 
 -- what is left of the rows behind the first i; nothing, once the last piece is there
 pub rest : Step → ℕ → Table → ℕ → List Row
@@ -300,38 +266,24 @@ module _ (s : Step) (t : Table) (can : CanStep s t) where
           pub moves-over : 128 ≤ n → 128 < length (stepped s (s .part .from) (rowsOf t))
           moves-over full = rw (← onward, length-append, length-append) (omega (arith, l .front .counts))
 
--- of ordered rows none starts before an earlier one
-starts-after : (hi lo : ℕ) (rows : List Row) (i k : ℕ) → Ordered hi lo rows → i ≤ k → k < length rows → rowAt rows i .start ≤ rowAt rows k .start
-unfolding Ordered
-starts-after hi lo [] i k o le lt = absurd (not-suc-le-zero lt)
-starts-after hi lo (r ∷ rs) zero zero o le lt = omega arith
-starts-after hi lo (r ∷ rs) zero (suc k) o le lt = omega (arith, ordered-at hi (r .end + 1) rs k (le-of-suc-le-suc lt) (o .3), o .1)
-starts-after hi lo (r ∷ rs) (suc i) zero o le lt = absurd (not-suc-le-zero le)
-starts-after hi lo (r ∷ rs) (suc i) (suc k) o le lt = starts-after hi (r .end + 1) rs i k (o .3) (le-of-suc-le-suc le) (le-of-suc-le-suc lt)
-
--- and none ends before an earlier one
-ends-after : (hi lo : ℕ) (rows : List Row) (i k : ℕ) → Ordered hi lo rows → i ≤ k → k < length rows → rowAt rows i .end ≤ rowAt rows k .end
-unfolding Ordered
-ends-after hi lo [] i k o le lt = absurd (not-suc-le-zero lt)
-ends-after hi lo (r ∷ rs) zero zero o le lt = omega arith
-ends-after hi lo (r ∷ rs) zero (suc k) o le lt = omega (arith, ordered-at hi (r .end + 1) rs k (le-of-suc-le-suc lt) (o .3))
-ends-after hi lo (r ∷ rs) (suc i) zero o le lt = absurd (not-suc-le-zero le)
-ends-after hi lo (r ∷ rs) (suc i) (suc k) o le lt = ends-after hi (r .end + 1) rs i k (o .3) (le-of-suc-le-suc le) (le-of-suc-le-suc lt)
-
 module _ (s : Step) (t : Table) (can : CanStep s t) where
-  -- rows of a table, in their order
+  -- a later row starts and ends later
   module _ (i k : ℕ) (le : i ≤ k) (lt : k < t .count) where
-    in-order : (f : Row → ℕ) → f (rowAt (rowsOf t) i) ≤ f (rowAt (rowsOf t) k) → f (rowAt (t .rows) i) ≤ f (rowAt (t .rows) k)
-    in-order f h = rw (← (getD-take (t .count) (t .rows) i noRow (omega arith)), ← (getD-take (t .count) (t .rows) k noRow lt)) h
+    later : (f : Row → ℕ) → (rowAt (t .rows) i .end < rowAt (t .rows) k .start → f (rowAt (t .rows) i) ≤ f (rowAt (t .rows) k)) → f (rowAt (t .rows) i) ≤ f (rowAt (t .rows) k)
+    later f behind =
+        let inside : k < length (rowsOf t) = omega (arith, can .arranged .clean .counts) in
+        ⊎-elim
+        (λ less. behind
+        (rw (← (getD-take (t .count) (t .rows) i noRow (omega arith)), ← (getD-take (t .count) (t .rows) k noRow lt))
+        (ordered-apart ticks 0 (rowsOf t) i k (can .arranged .ordered) less inside)))
+        (λ ge. let same : i ≡ k = omega arith in rw same (omega arith))
+        (lt-or-le i k)
 
-    inside : k < length (rowsOf t)
-    inside = omega (arith, can .arranged .clean .counts)
-
-    pub later-start : rowAt (t .rows) i .start ≤ rowAt (t .rows) k .start
-    later-start = in-order (λ r. r .start) (starts-after ticks 0 (rowsOf t) i k (can .arranged .ordered) le inside)
+    later-start : rowAt (t .rows) i .start ≤ rowAt (t .rows) k .start
+    later-start = later (λ r. r .start) (λ behind. omega (arith, behind, row-lies s t can i (omega arith)))
 
     pub later-end : rowAt (t .rows) i .end ≤ rowAt (t .rows) k .end
-    later-end = in-order (λ r. r .end) (ends-after ticks 0 (rowsOf t) i k (can .arranged .ordered) le inside)
+    later-end = later (λ r. r .end) (λ behind. omega (arith, behind, row-lies s t can k lt))
 
   -- rows that stay, one after another
   go-on : (m : ℕ) {rows : List Row} {n x i j : ℕ} {p : Pieces} → Laid s t rows n x i p j → p .count ≤ j → n ≡ i → i + m ≤ t .count
@@ -376,55 +328,3 @@ module _ (s : Step) (t : Table) (can : CanStep s t) where
       let end : s .part .from ≤ rowAt (t .rows) k .end = omega (arith, ge, later-end i k low here) in
       stepped-untouched s x (rowAt (t .rows) k) (drop (k + 1) (rowsOf t)) (can .some) (l .low) (l .high) (row-lies s t can k here .0) end
       (rw (le-ltb (rowAt (t .rows) k .start) (s .part .until) start) (apart .1))))
-
--- the places behind the rows are cleared, as far as the old rows went
-drop-replicate : {A : Type 0} (k m : ℕ) (a : A) → drop k (replicate m a) ≡ replicate (m - k) a
-drop-replicate zero m a = rw sub-zero
-drop-replicate (suc k) zero a = rw zero-sub
-drop-replicate (suc k) (suc m) a = rw suc-sub-suc (drop-replicate k m a)
-
-pub record Cleared (whole : List Row) (count : ℕ) (rows : List Row) (n at : ℕ) : Type 0 where
-  pub source : List Row
-  pub front : Front source rows at (whole ++ replicate (at - n) emptyRow)
-  pub counts : n ≡ length whole
-  pub upto : n ≤ at
-  pub blank : drop count source ≡ replicate (128 - count) emptyRow
-
-pub clear-start : (t : Table) {whole rows : List Row} {n : ℕ} → Clean t → Front (t .rows) rows n whole → Cleared whole (t .count) rows n n
-clear-start t {whole} {rows} {n} clean f =
-    let none : n - n ≡ 0 = omega arith in
-    let long : 128 - length (rowsOf t) ≡ 128 - t .count = omega (arith, clean .counts) in
-    record {
-      source = t .rows;
-      front = rw (none, append-nil) f;
-      counts = f .counts;
-      upto = omega arith;
-      blank = ap (λ (l : List Row). drop (t .count) l) (clean .is) ∙ drop-at (rowsOf t) _ (t .count) (sym (clean .counts)) ∙ rw long;
-    }
-
-module _ {whole rows : List Row} {count n at : ℕ} (c : Cleared whole count rows n at) where
-  pub clear-more : at < 128 → Cleared whole count (set rows at emptyRow) n (at + 1)
-  clear-more lt =
-      let more : at + 1 - n ≡ (at - n) + 1 = omega (arith, c .upto) in
-      record {
-        source = c .source;
-        front = front-as (front-store (c .front) lt emptyRow)
-            (rw (more, append-assoc) (ap (λ (l : List Row). whole ++ l) (replicate-append-replicate (at - n) 1 emptyRow)));
-        counts = c .counts;
-        upto = omega (arith, c .upto);
-        blank = c .blank;
-      }
-
-  pub clear-all : count ≤ at → Held 128 emptyRow rows n whole
-  clear-all le =
-      let there : count + (at - count) ≡ at = omega arith in
-      let left : 128 - count - (at - count) ≡ 128 - at = omega arith in
-      let gap : (at - n) + (128 - at) ≡ 128 - length whole = omega (arith, c .counts, c .upto, c .front .fits) in
-      let tail : drop at (c .source) ≡ replicate (128 - at) emptyRow =
-      ap (λ (k : ℕ). drop k (c .source)) (sym there) ∙ sym (drop-drop (at - count) count (c .source)) ∙ ap (λ (l : List Row). drop (at - count) l) (c .blank)
-      ∙ drop-replicate (at - count) (128 - count) emptyRow ∙ ap (λ (k : ℕ). replicate k emptyRow) left in
-      record {
-        is = c .front .is ∙ rw (tail, append-assoc, replicate-append-replicate, gap);
-        counts = c .counts;
-        fits = omega (arith, c .upto, c .front .fits);
-      }

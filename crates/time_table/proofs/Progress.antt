@@ -24,7 +24,7 @@ use Rattle.time_table.specs.Removal.{removal}
 use Rattle.time_table.specs.Stepping.{stepAt}
 use Rattle.time_table.specs.Update.{after, overAfter, updated, Updatable}
 use Rattle.time_table.proofs.Editing.{stepped, CanStep, Puts, Takes, Editable}
-use Rattle.time_table.proofs.Laying.{Cleared}
+use Rattle.time_table.proofs.Front.{Cleared}
 use Rattle.time_table.proofs.Edits.{Down, down-on, over-here, rows-of, table-self, part-next, part-end, Fitting, remove-first, insert-first, remove-on, insert-on}
 use Rattle.time_table.proofs.Updates.{left-held, parts-in, update-removes, update-adds}
 use Rattle.time_table.proofs.Sums.{lt-or-le}

@@ -3,14 +3,14 @@
 -- places are cleared.
 -- Assumes nothing.
 use mathlib.Core.Path.{_≡_, refl, sym, _∙_}
-use mathlib.Core.Bool.{Bool, true, false, not, true≢false}
 use mathlib.Core.Logic.{⊎-elim}
 use Prim.Native.Nat.{ℕ, _+_, _-_, _*_, _/_, _≤_, _<_}
 use native.Mathlib.Omega.{arith}
 use borrow.Author.Needs.{needs}
-use borrow.Author.Tests.{ltb-true, ltb-false}
+use borrow.Author.Tests.{ltb-true, ltb-false, not-false}
 use Rattle.time_table.specs.Rows.{rowAt}
-use Rattle.time_table.proofs.Laying.{Laid, laid-from, later-end, row-lies, row-changeable, row-stays, laid-piece, piece-over, laid-last, laid-all, laid-cut, laid-moves, laid-rests, moves-over, clear-start, clear-more, clear-all}
+use Rattle.time_table.proofs.Laying.{Laid, laid-from, later-end, row-lies, row-changeable, row-stays, laid-piece, piece-over, laid-last, laid-all, laid-cut, laid-moves, laid-rests, moves-over}
+use Rattle.time_table.proofs.Front.{clear-start, clear-more, clear-all}
 use Rattle.time_table.proofs.Progress.{tabled, Progress, Turn, turn, finished, started, answer-is, Closing}
 use Rattle.time_table.proofs.time_table_over_interval_incremental.update_time_table.Statement.{statement}
 use Rattle.time_table.proofs.time_table_over_interval_incremental.update_time_table.Tie as tie
@@ -159,10 +159,6 @@ loop3-again-2 c =
     let l = c .before .before .before .before in
     (l .loop3 .inv .0, laid-last _ _ (l .loop3 .inv .0 .can) (l .loop3 .inv .1) (c .before .before .if4 .left) (c .before .if6 .taken) (c .last-profile .result) (c .last-profile .ensures), λ x le lt. l .loop3 .inv .2 x (omega arith) lt)
 
-holds : (b : Bool) → not b ≡ false → b ≡ true
-holds true e = refl
-holds false e = absurd (true≢false e)
-
 -- where no piece is left and the rows are not all read, there is a next row
 inside : (c : tie.Else6 Inv-loop2 μ-loop2 Inv-loop3 μ-loop3 Inv-loop4 μ-loop4 Inv-loop μ-loop) → c .before .before .before .loop3 .i < c .before .before .before .before .before .before .before .before .before .loop .count
 inside c =
@@ -213,7 +209,7 @@ loop3-again-4 : tie.Need-loop3-again-4 Inv-loop2 μ-loop2 Inv-loop3 μ-loop3 Inv
 loop3-again-4 c =
     let l = c .before .before .before .before .before .before .before in (
       l .loop3 .inv .0,
-      laid-rests _ _ (l .loop3 .inv .0 .can) (l .loop3 .inv .1) (c .before .before .before .before .before .if4 .left) (inside (c .before .before .before .before)) (l .loop3 .inv .2 (l .loop3 .i) (omega arith) (inside (c .before .before .before .before))) (sym (c .before .before .is-untouched .ensures) ∙ holds _ (c .before .if7 .left)) (c .if8 .taken),
+      laid-rests _ _ (l .loop3 .inv .0 .can) (l .loop3 .inv .1) (c .before .before .before .before .before .if4 .left) (inside (c .before .before .before .before)) (l .loop3 .inv .2 (l .loop3 .i) (omega arith) (inside (c .before .before .before .before))) (sym (c .before .before .is-untouched .ensures) ∙ not-false _ (c .before .if7 .left)) (c .if8 .taken),
       λ x le lt. absurd (omega arith),
     )
 
@@ -221,7 +217,7 @@ returns-2 : tie.Need-returns-2 Inv-loop2 μ-loop2 Inv-loop3 μ-loop3 Inv-loop4 �
 returns-2 c =
     let l = c .before .before .before .before .before .before .before .before in
     let a = c .before .before .before .before .before .before .before .before .before .before .before .before .before .before .before .before .before .before .args in
-    l .loop3 .inv .0 .over (moves-over _ _ (l .loop3 .inv .0 .can) (l .loop3 .inv .1) (c .before .before .before .before .before .before .if4 .left) (inside (c .before .before .before .before .before)) (row-stays _ _ (l .loop3 .inv .0 .can) (l .loop3 .inv .1) (inside (c .before .before .before .before .before)) (l .loop3 .inv .2 (l .loop3 .i) (omega arith) (inside (c .before .before .before .before .before))) (sym (c .before .before .before .is-untouched .ensures) ∙ holds _ (c .before .before .if7 .left))) (omega arith)) ∙ answer-is (a .old) (a .new) (a .table) (c .before .before .before .before .before .before .before .before .before .before .before .before .before .before .before .before .before .get-mandatory-part-adjustments .result) (c .before .before .before .before .before .before .before .before .before .before .before .before .before .before .before .before .before .get-mandatory-part-adjustments .ensures)
+    l .loop3 .inv .0 .over (moves-over _ _ (l .loop3 .inv .0 .can) (l .loop3 .inv .1) (c .before .before .before .before .before .before .if4 .left) (inside (c .before .before .before .before .before)) (row-stays _ _ (l .loop3 .inv .0 .can) (l .loop3 .inv .1) (inside (c .before .before .before .before .before)) (l .loop3 .inv .2 (l .loop3 .i) (omega arith) (inside (c .before .before .before .before .before))) (sym (c .before .before .before .is-untouched .ensures) ∙ not-false _ (c .before .before .if7 .left))) (omega arith)) ∙ answer-is (a .old) (a .new) (a .table) (c .before .before .before .before .before .before .before .before .before .before .before .before .before .before .before .before .before .get-mandatory-part-adjustments .result) (c .before .before .before .before .before .before .before .before .before .before .before .before .before .before .before .before .before .get-mandatory-part-adjustments .ensures)
 
 mul-rows-3 : tie.Need-mul-rows-3 Inv-loop2 μ-loop2 Inv-loop3 μ-loop3 Inv-loop4 μ-loop4 Inv-loop μ-loop
 mul-rows-3 c = omega (arith, c .before .before .before .before .before .before .before .before .loop3 .inv .1 .front .fits)
@@ -241,7 +237,7 @@ loop3-less-5 c = omega (arith, inside (c .before .before .before .before .before
 loop3-again-5 : tie.Need-loop3-again-5 Inv-loop2 μ-loop2 Inv-loop3 μ-loop3 Inv-loop4 μ-loop4 Inv-loop μ-loop
 loop3-again-5 c =
     let l = c .before .before .before .before .before .before .before .before in
-    (l .loop3 .inv .0, laid-moves _ _ (l .loop3 .inv .0 .can) (l .loop3 .inv .1) (c .before .before .before .before .before .before .if4 .left) (inside (c .before .before .before .before .before)) (row-stays _ _ (l .loop3 .inv .0 .can) (l .loop3 .inv .1) (inside (c .before .before .before .before .before)) (l .loop3 .inv .2 (l .loop3 .i) (omega arith) (inside (c .before .before .before .before .before))) (sym (c .before .before .before .is-untouched .ensures) ∙ holds _ (c .before .before .if7 .left))) (omega (arith, l .loop3 .inv .1 .front .fits, c .if9 .left)), λ x le lt. l .loop3 .inv .2 x (omega arith) lt)
+    (l .loop3 .inv .0, laid-moves _ _ (l .loop3 .inv .0 .can) (l .loop3 .inv .1) (c .before .before .before .before .before .before .if4 .left) (inside (c .before .before .before .before .before)) (row-stays _ _ (l .loop3 .inv .0 .can) (l .loop3 .inv .1) (inside (c .before .before .before .before .before)) (l .loop3 .inv .2 (l .loop3 .i) (omega arith) (inside (c .before .before .before .before .before))) (sym (c .before .before .before .is-untouched .ensures) ∙ not-false _ (c .before .before .if7 .left))) (omega (arith, l .loop3 .inv .1 .front .fits, c .if9 .left)), λ x le lt. l .loop3 .inv .2 x (omega arith) lt)
 
 loop4-holds : tie.Need-loop4-holds Inv-loop2 μ-loop2 Inv-loop3 μ-loop3 Inv-loop4 μ-loop4 Inv-loop μ-loop
 loop4-holds c =
