@@ -6,7 +6,7 @@ use mathlib.Core.List.{[]}
 use Prim.Native.Nat.{ℕ, _≤_, _<_}
 use native.Mathlib.Omega.{arith}
 use Rattle.time_table.specs.declared.Table.{Table}
-use Rattle.time_table.specs.declared.time_table_over_interval_incremental.Conflict.{Conflict}
+use Rattle.time_table.specs.declared.Conflict.{Conflict}
 use Rattle.time_table.specs.Rows.{rowsOf, tableOf, rowAt}
 use Rattle.time_table.specs.Overload.{conflictIn}
 use Rattle.time_table.proofs.Edits.{table-self}

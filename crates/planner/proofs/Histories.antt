@@ -13,9 +13,8 @@ use Rattle.time_table.specs.Rows.{rowsOf, tableOf}
 use Rattle.time_table.specs.Meaning.{Right}
 use Rattle.time_table.specs.Update.{updateOver, updatedRows, updated}
 use Rattle.time_table.specs.declared.Part.{Part}
-use Rattle.time_table.specs.Table.{verdict}
 use Rattle.time_table.proofs.Edits.{rows-of}
-use Rattle.time_table.proofs.Updates.{UpdateFits, updated-fits}
+use Rattle.time_table.proofs.Updates.{UpdateFits, update-fits}
 use Rattle.sweep.specs.declared.Task.{Task}
 use Rattle.sweep.specs.Tasks.{tasksOf, tasksWith, taskAt, usageOf, partOf, runs}
 use Rattle.sweep.specs.Created.{created}
@@ -114,11 +113,8 @@ module _ (h : Heard) (plan : Plan) (a : Agrees h plan) (id earliest latest : ℤ
 
     -- the edit of a live table that has room
     module _ (live : plan .live ≡ true) (room : updateOver old new (rowsOf (plan .table)) ≡ false) where
-      fits : UpdateFits old new (plan .table) (record { over = false; table = tableOf rows })
-      unfolding updated
-      fits =
-          updated-fits old new (plan .table) (record { over = false; table = tableOf rows }) (a .sound .live live .clean)
-          (sym (ap (λ (b : Bool). verdict b (plan .table) rows) room)) refl
+      fits : UpdateFits old new (plan .table) (tableOf rows)
+      fits = update-fits old new (plan .table) (tableOf rows) (a .sound .live live .clean) room refl
 
       right : Right (runs ts) (usageOf ts) rows
       right =

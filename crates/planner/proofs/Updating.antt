@@ -1,7 +1,7 @@
 -- An update of a sound plan: the task with its new bounds is within the limits, and a live table that is right for the old part becomes one
 -- that is right for the new part.
 -- Assumes nothing.
-use mathlib.Core.Path.{_≡_, refl, sym, ap}
+use mathlib.Core.Path.{_≡_, refl, sym, ap, _∙_}
 use mathlib.Core.Bool.{Bool, true, false, cond}
 use mathlib.Core.List.{List}
 use Prim.Native.Nat.{ℕ, _≤_, _<_}
@@ -10,15 +10,20 @@ use lib.IntN.{ℤ}
 use lib.ListN.{getD, set}
 use lib.Seq.{getD-take}
 use Rattle.time_table.specs.declared.Row.{Row}
+use Rattle.time_table.specs.declared.Table.{Table}
 use Rattle.time_table.specs.declared.Edited.{Edited}
-use Rattle.time_table.specs.Rows.{rowsOf}
+use Rattle.time_table.specs.Rows.{rowsOf, tableOf}
 use Rattle.time_table.specs.Meaning.{Right}
+use Rattle.time_table.specs.Overload.{conflictIn}
 use Rattle.time_table.specs.Update.{updateOver, updatedRows, Updatable}
+use Rattle.time_table.specs.Update.{updated as edited}
+use Rattle.time_table.proofs.Held.{held-set}
 use Rattle.time_table.proofs.Edits.{rows-of, clean-of}
 use Rattle.time_table.proofs.Steps.{right-as}
 use Rattle.time_table.proofs.AdjustedRight.{moved-self}
-use Rattle.time_table.proofs.Updates.{UpdateFits, updated-right}
+use Rattle.time_table.proofs.Updates.{UpdateFits, update-fits, updated-right}
 use Rattle.sweep.specs.declared.Task.{Task}
+use Rattle.sweep.specs.declared.Tasks.{Tasks}
 use Rattle.sweep.specs.Tasks.{noTask, tasksOf, tasksWith, taskAt, usageOf, partOf, inPart, runs}
 use Rattle.planner.specs.declared.Plan.{Plan}
 use Rattle.planner.specs.Sound.{Limited, SoundTasks, Live, Sound}
@@ -70,10 +75,9 @@ module _ (plan : Plan) (s : Sound plan) (i e l : ℕ) (lt : i < plan .tasks .cou
         high = omega (arith, k, order, top);
       }
 
-  pub new-live : (live : plan .live ≡ true) (edit : Edited) → UpdateFits (partOf i old) (partOf i new) (plan .table) edit
-      → Live (tasksWith (set (tasksOf (plan .tasks)) i new)) (edit .table)
+  pub new-live : (live : plan .live ≡ true) (t : Table) → UpdateFits (partOf i old) (partOf i new) (plan .table) t → Live (tasksWith (set (tasksOf (plan .tasks)) i new)) t
   unfolding updatable
-  new-live live edit fits =
+  new-live live t fits =
       let rows = updatedRows (partOf i old) (partOf i new) (rowsOf (plan .table)) in
       let right : Right (runs (set (tasksOf (plan .tasks)) i new)) (usageOf (set (tasksOf (plan .tasks)) i new)) rows =
       rw (replaced-runs (plan .tasks) (s .tasks) i lt new new-limited, replaced-usage (plan .tasks) (s .tasks) i lt new new-limited refl)
@@ -104,6 +108,52 @@ module _ (plan : Plan) (i e l : ℕ) where
       → liveUpdate plan i changed ≡ livePlan (plan .capacity) (set (tasksOf (plan .tasks)) i changed) rows-after
   unfolding liveUpdate
   live-with-room room = ap (λ (b : Bool). cond b (refusedUpdate plan TooManyRows) (livePlan (plan .capacity) (set (tasksOf (plan .tasks)) i changed) rows-after)) room
+
+-- the tasks as the code has them, with k stored in the place of the task i
+module _ (plan : Plan) (s : Sound plan) (i e l : ℕ) (lt : i < plan .tasks .count) (order : e ≤ l) (top : l ≤ 2000000000) (k : Task) (q : k ≡ new plan s i e l lt order top) where
+  abbrev pub stored : Tasks
+  stored = record { list = set (plan .tasks .list) i k; count = plan .tasks .count }
+
+  pub stored-is : stored ≡ tasksWith (set (tasksOf (plan .tasks)) i (new plan s i e l lt order top))
+  stored-is =
+      let h = held-set (s .tasks .held) i k lt in
+      (λ j. record { list = h .is j; count = h .counts j }) ∙ ap (λ (x : Task). tasksWith (set (tasksOf (plan .tasks)) i x)) q
+
+  pub stored-sound : SoundTasks stored
+  stored-sound = rw stored-is (new-sound plan s i e l lt order top)
+
+  pub stored-tasks : tasksOf stored ≡ set (tasksOf (plan .tasks)) i (new plan s i e l lt order top)
+  stored-tasks = ap tasksOf stored-is ∙ new-tasks plan s i e l lt order top
+
+  -- the answer of an edit of a live table
+  module _ (live : plan .live ≡ true) (r : Edited)
+      (is : r ≡ edited (plan .capacity) (partOf i (old plan s i e l lt order top)) (partOf i (new plan s i e l lt order top)) (plan .table)) where
+    flag : {b : Bool} → r .over ≡ b → updateOver (partOf i (old plan s i e l lt order top)) (partOf i (new plan s i e l lt order top)) (rowsOf (plan .table)) ≡ b
+    unfolding edited
+    flag f = sym (ap (λ (x : Edited). x .over) is) ∙ f
+
+    pub edit-scanned : r .conflict ≡ conflictIn (plan .capacity) (rowsOf (r .table))
+    unfolding edited
+    edit-scanned = ap (λ (x : Edited). x .conflict) is ∙ ap (λ (x : Edited). conflictIn (plan .capacity) (rowsOf (x .table))) (sym is)
+
+    came-to : {b : Bool} → r .over ≡ b
+        → r .table ≡ cond b (plan .table) (tableOf (updatedRows (partOf i (old plan s i e l lt order top)) (partOf i (new plan s i e l lt order top)) (rowsOf (plan .table))))
+    unfolding edited
+    came-to f = rw (← (flag f)) (ap (λ (x : Edited). x .table) is)
+
+    pub edit-over : r .over ≡ true → (r .table ≡ plan .table) × (refusedUpdate plan TooManyRows ≡ acceptedUpdate plan i e l)
+    edit-over f = (came-to f, sym (accepted-live plan i e l live ∙ live-over-full plan i e l (flag f)))
+
+    fits : r .over ≡ false → UpdateFits (partOf i (old plan s i e l lt order top)) (partOf i (new plan s i e l lt order top)) (plan .table) (r .table)
+    fits f = update-fits _ _ (plan .table) (r .table) (s .live live .clean) (flag f) (came-to f)
+
+    pub edit-live : r .over ≡ false → Live stored (r .table)
+    edit-live f = rw stored-is (new-live plan s i e l lt order top live (r .table) (fits f))
+
+    pub edit-whole : r .over ≡ false → livePlan (plan .capacity) (tasksOf stored) (rowsOf (r .table)) ≡ acceptedUpdate plan i e l
+    edit-whole f =
+        let rows = ap rowsOf (fits f .is) ∙ rows-of _ in
+        (λ j. livePlan (plan .capacity) (stored-tasks j) (rows j)) ∙ sym (accepted-live plan i e l live ∙ live-with-room plan i e l (flag f))
 
 -- the cases of an update
 module _ (plan : Plan) (id earliest latest : ℤ) where

@@ -3,7 +3,7 @@ use mathlib.Core.Bool.{cond, true, not}
 use mathlib.Core.List.{List, []}
 use Prim.Native.Nat.{ℕ}
 use Rattle.time_table.specs.declared.Row.{Row}
-use Rattle.time_table.specs.declared.time_table_over_interval_incremental.Conflict.{Conflict}
+use Rattle.time_table.specs.declared.Conflict.{Conflict}
 use Rattle.time_table.specs.Rows.{tableOf}
 use Rattle.time_table.specs.Overload.{conflictIn}
 use Rattle.sweep.specs.declared.Task.{Task}

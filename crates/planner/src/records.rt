@@ -30,6 +30,6 @@ pub(crate) fn record_of(row: Row) -> RowRecord
         end: border::instant_of(row.end),
         height: row.height,
         ids,
-        count: row.count,
+        count: row.count as usize,
     }
 }

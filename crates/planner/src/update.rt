@@ -1,11 +1,10 @@
 // An update of one task's bounds.
 ghost use mathlib.Core.Path.{_≡_};
+ghost use mathlib.Core.Bool.{true, false};
 ghost use Prim.Native.Nat.{_≤_, _<_};
-ghost use lib.ListN.{set};
-ghost use Rattle.sweep.specs.Tasks.{tasksOf, tasksWith, heldTasks};
 ghost use Rattle.planner.specs.Sound.{Sound};
 ghost use Rattle.planner.specs.Answers.{refusedUpdate};
-ghost use Rattle.planner.specs.Updates.{known, acceptedUpdate, updated};
+ghost use Rattle.planner.specs.Updates.{known, bounded, acceptedUpdate, updated};
 use crate::Answer;
 use crate::Checked;
 use crate::Plan;
@@ -15,8 +14,6 @@ use crate::border;
 use crate::load;
 use crate::records;
 use sweep::Task;
-use sweep::Tasks;
-use time_table::time_table_over_interval_incremental::find_conflicting_profile;
 use time_table::time_table_over_interval_incremental::update_time_table;
 
 // Whether one of so many tasks has this id.
@@ -40,69 +37,70 @@ pub(crate) fn refused_update(plan: Plan, why: Refusal) -> Updated
     }
 }
 
-// The tasks with another in the place of one.
-pub(crate) fn replace_task(tasks: Tasks, id: usize, task: Task) -> Tasks
-    requires { ⌜ heldTasks tasks × (id < tasks .count) ⌝ }
-    ensures { λ r. ⌜ r ≡ tasksWith (set (tasksOf tasks) id task) ⌝ }
+// A task with other bounds.
+pub(crate) fn rebounded(task: Task, earliest: u32, latest: u32) -> Task
+    ensures { λ r. ⌜ r ≡ bounded task earliest latest ⌝ }
 {
-    let mut replaced = tasks;
-    replaced.list[id] = task;
-    replaced
+    Task {
+        earliest,
+        latest,
+        duration: task.duration,
+        usage: task.usage,
+    }
 }
 
-// An update that is accepted but for the table's room: a live table is edited, and a stale plan is
-// swept again. The plan is changed in its place, since each further exit would copy it once more.
-pub(crate) fn accepted_update(plan: Plan, id: usize, earliest: u32, latest: u32) -> Updated
-    requires { ⌜ Sound plan × (id < plan .tasks .count) × (earliest ≤ latest) × (latest ≤ 2000000000) ⌝ }
+// An update of a live plan that is accepted but for the table's room: the table is edited. There is one
+// exit, since each further one would copy the plan once more.
+pub(crate) fn live_update(plan: Plan, id: usize, earliest: u32, latest: u32) -> Updated
+    requires { ⌜ Sound plan × (plan .live ≡ true) × (id < plan .tasks .count) × (earliest ≤ latest) × (latest ≤ 2000000000) ⌝ }
     ensures { λ r. ⌜ r ≡ acceptedUpdate plan id earliest latest ⌝ }
     ensures { λ r. ⌜ Sound (r .plan) ⌝ }
 {
-    let mut after = plan;
+    let mut tasks = plan.tasks;
+    let old = tasks.list[id];
+    let new = rebounded(old, earliest, latest);
+    let place = id as u8;
+    let edited = update_time_table(
+        plan.table,
+        old.mandatory_part(place),
+        new.mandatory_part(place),
+        plan.capacity,
+    );
+    let table = edited.table;
+    let conflict = edited.conflict;
     let mut answer = Answer::Fits;
     let mut row = records::no_record();
-    let tasks = after.tasks;
-    let old = tasks.list[id];
-    let new = Task {
-        earliest,
-        latest,
-        duration: old.duration,
-        usage: old.usage,
-    };
-    let replaced = replace_task(tasks, id, new);
-    if after.live {
-        let place = id as u8;
-        let edited = update_time_table(
-            after.table,
-            old.mandatory_part(place),
-            new.mandatory_part(place),
-        );
-        if edited.over {
-            answer = Answer::Refused(Refusal::TooManyRows);
-        } else {
-            let table = edited.table;
-            let conflict = find_conflicting_profile(table, plan.capacity);
-            after = Plan {
-                table,
-                tasks: replaced,
-                capacity: plan.capacity,
-                live: true,
-            };
-            if conflict.found {
-                answer = Answer::Overloaded;
-                row = records::record_of(conflict.row);
-            }
-        }
+    if edited.over {
+        answer = Answer::Refused(Refusal::TooManyRows);
     } else {
-        let swept = load::swept_plan(after.capacity, replaced);
-        answer = swept.answer;
-        row = swept.row;
-        after = swept.plan;
+        tasks.list[id] = new;
+        if conflict.found {
+            answer = Answer::Overloaded;
+            row = records::record_of(conflict.row);
+        }
     }
     Updated {
-        plan: after,
+        plan: Plan {
+            table,
+            tasks,
+            capacity: plan.capacity,
+            live: true,
+        },
         answer,
         row,
     }
+}
+
+// An update of a stale plan that is accepted: the tasks are swept again.
+pub(crate) fn stale_update(plan: Plan, id: usize, earliest: u32, latest: u32) -> Updated
+    requires { ⌜ Sound plan × (plan .live ≡ false) × (id < plan .tasks .count) × (earliest ≤ latest) × (latest ≤ 2000000000) ⌝ }
+    ensures { λ r. ⌜ r ≡ acceptedUpdate plan id earliest latest ⌝ }
+    ensures { λ r. ⌜ Sound (r .plan) ⌝ }
+{
+    let mut tasks = plan.tasks;
+    let old = tasks.list[id];
+    tasks.list[id] = rebounded(old, earliest, latest);
+    load::swept_plan(plan.capacity, tasks)
 }
 
 impl Plan {
@@ -118,12 +116,16 @@ impl Plan {
         let checked = border::check_bounds(earliest, latest);
         match checked {
             Checked::Refused(why) => refused_update(self, why),
-            Checked::Accepted => accepted_update(
-                self,
-                border::amount_of(id) as usize,
-                border::tick_of(earliest),
-                border::tick_of(latest),
-            ),
+            Checked::Accepted => {
+                let place = border::amount_of(id) as usize;
+                let from = border::tick_of(earliest);
+                let to = border::tick_of(latest);
+                if self.live {
+                    live_update(self, place, from, to)
+                } else {
+                    stale_update(self, place, from, to)
+                }
+            }
         }
     }
 }

@@ -1,5 +1,5 @@
--- Numbers that are written one after another: those of two lists are those of the one and then of the other, and all of them are
--- laid over the first places.
+-- Numbers that are written one after another: those of two lists are those of the one and then of the other, the places stay as many as they were,
+-- and all the numbers are laid over the first of them.
 -- Assumes nothing.
 use mathlib.Core.Path.{_≡_, refl, sym, ap, _∙_}
 use mathlib.Core.List.{List, [], _∷_, _++_, append-assoc}
@@ -7,7 +7,7 @@ use Prim.Native.Nat.{ℕ, _+_, _≤_, _<_, min}
 use native.Mathlib.Omega.{arith}
 use borrow.Author.Tests.{lt-ltb, le-ltb}
 use lib.IntN.{ℤ}
-use lib.ListN.{length, set, length-append}
+use lib.ListN.{length, set, length-append, length-set}
 use lib.Seq.{set-out, set-append-seam}
 use Rattle.script.specs.Pages.{laid, Page, pageOf, put, puts}
 
@@ -29,6 +29,12 @@ puts-append p (x ∷ xs) ys = puts-append (put p x) xs ys
 pub puts-next : (p : Page) {q : Page} (xs : List ℤ) (x : ℤ) → q ≡ puts p xs → put q x ≡ puts p (xs ++ x ∷ [])
 unfolding puts
 puts-next p xs x e = ap (λ (r : Page). put r x) e ∙ sym (puts-append p xs (x ∷ []))
+
+-- the places stay as many as they were
+pub puts-long : (p : Page) (xs : List ℤ) → length (puts p xs .places) ≡ length (p .places)
+unfolding put puts
+puts-long p [] = refl
+puts-long p (x ∷ xs) = puts-long (put p x) xs ∙ length-set (p .places) (p .written) x
 
 -- nothing is laid over no places
 laid-none : (xs : List ℤ) → laid xs [] ≡ []

@@ -23,13 +23,15 @@ use Rattle.script.specs.Sessions.{keptAfter, planAfter, said}
 use Rattle.script.specs.Runs.{answersOf}
 use Rattle.script.proofs.Pages.{puts-append}
 
--- what answering a command does: to the page, the plan and the command as it is read again
-pub record Answered (page next : Page) (plan plan' : Plan) (jobs : Jobs) (c c' : Command) : Type 0 where
-  pub same : c' ≡ c
-  pub wrote : next ≡ puts page (said plan jobs c)
-  pub led : plan' ≡ planAfter plan jobs c
+-- what answering a command does: to the page, the plan and the jobs, and the command is the same when it is read again
+pub record Answered (page next : Page) (plan plan' : Plan) (jobs jobs' : Jobs) (c c' : Command) : Type 0 where
+  pub found : Command
+  pub is : c ≡ found
+  pub again : c' ≡ found
+  pub wrote : next ≡ puts page (said plan jobs found)
+  pub led : plan' ≡ planAfter plan jobs found
+  pub keeps : jobs' ≡ keptAfter jobs found
   pub sound : Sound plan'
-  pub long : length (next .places) ≡ length (page .places)
 
 -- numbers of the command before are passed over
 skipped : (plan : Plan) (jobs : Jobs) (k : ℕ) (l : List ℤ) → answersOf plan jobs k l ≡ answersOf plan jobs 0 (drop k l)
@@ -68,15 +70,15 @@ module _ (script : List ℤ) (at : ℕ) (inside : at < length script) where
   -- the command there is answered, and what is left is what follows its numbers
   pub step : (page : Page) {next : Page} (plan : Plan) {plan' : Plan} (jobs : Jobs) {jobs' : Jobs} {c c' : Command} {n : ℕ}
       → c ≡ commandOf (drop at script)
-      → Answered page next plan plan' jobs c c'
-      → jobs' ≡ keptAfter jobs c'
+      → Answered page next plan plan' jobs jobs' c c'
       → n ≡ argumentsOf c' (length script - at - 1)
       → puts page (answersOf plan jobs 0 (drop at script)) ≡ puts next (answersOf plan' jobs' 0 (drop (at + 1 + n) script))
-  step page {next} plan {plan'} jobs {jobs'} {c} {c'} {n} is answered keeps taken =
-      ap (puts page) (first plan jobs ∙ ap (split plan jobs) (sym is))
-      ∙ puts-append page (said plan jobs c) _
-      ∙ (λ i. puts (sym (answered .wrote) i) (answersOf (sym (answered .led) i) (sym (keeps ∙ ap (keptAfter jobs) (answered .same)) i) (argumentsOf (sym (answered .same) i) (length rest)) rest))
-      ∙ ap (puts next) (after plan' jobs' c' n taken)
+  step page {next} plan {plan'} jobs {jobs'} {c} {c'} {n} is answered taken =
+      let found = answered .found in
+      ap (puts page) (first plan jobs ∙ ap (split plan jobs) (sym is ∙ answered .is))
+      ∙ puts-append page (said plan jobs found) _
+      ∙ (λ i. puts (sym (answered .wrote) i) (answersOf (sym (answered .led) i) (sym (answered .keeps) i) (argumentsOf found (length rest)) rest))
+      ∙ ap (puts next) (after plan' jobs' found n (taken ∙ ap (λ (x : Command). argumentsOf x (length script - at - 1)) (answered .again)))
 
 -- a command takes no more numbers than there are
 and-right : (a b : Bool) → (a && b) ≡ true → b ≡ true

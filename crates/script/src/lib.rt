@@ -2,7 +2,7 @@
 // slice, is run on a fresh plan, and the answers are written as numbers to another.
 mod answers;
 mod commands;
-mod kept;
+mod session;
 
 ghost use mathlib.Core.Path.{_≡_};
 ghost use lib.ListN.{length};
@@ -40,25 +40,37 @@ pub extern "C" fn pass_planner_run(script: &[i32], answers: &mut [i32]) -> usize
     ensures { λ r. ⌜ now (answers .exit) ≡ laid (run (now (script .entry))) (now (answers .entry)) ⌝ }
     ensures { λ r. ⌜ r ≡ min (length (run (now (script .entry)))) (length (now (answers .entry))) ⌝ }
 {
-    let mut plan = Plan::fresh();
+    let mut state = session::begun();
     let mut jobs = Jobs::empty();
     let mut written = 0;
     let mut at = 0;
     while at < script.len() {
         let command = commands::command_at(script, at);
         match command {
-            Command::Call(call) => {
-                let updated = kept::call(plan, jobs, call);
-                let answer = updated.answer;
-                let row = updated.row;
-                plan = updated.plan;
-                written = answers::put_answer(answers, written, answer, row);
-            }
+            Command::Call(call) => match call {
+                Call::Load(capacity) => {
+                    state = session::load(state.plan, jobs, capacity);
+                    jobs = Jobs::empty();
+                    let answer = state.answer;
+                    written = answers::put_answer(answers, written, answer, state.row);
+                }
+                Call::Update(id, earliest, latest) => {
+                    state = state.plan.update(id, earliest, latest);
+                    let answer = state.answer;
+                    written = answers::put_answer(answers, written, answer, state.row);
+                }
+            },
             Command::Ask(ask) => {
-                written = answers::put_ask(answers, written, plan, jobs.count, ask);
+                let n = jobs.count;
+                written = answers::put_ask(answers, written, state.plan, n, ask);
+                if let Ask::Keep(job) = ask {
+                    if n < Plan::JOBS {
+                        jobs.list[n] = job;
+                        jobs.count = n + 1;
+                    }
+                }
             }
         }
-        jobs = kept::kept(jobs, command);
         at = at + 1 + commands::arguments_of(command, script.len() - at - 1);
     }
     written

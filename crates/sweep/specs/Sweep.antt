@@ -1,12 +1,12 @@
 -- The sweep: the maximal runs of instants with one unchanging, non-empty set of covering tasks.
 -- The time line is cut where parts start and end, and between two cuts the covering tasks do not change.
-use mathlib.Core.Bool.{true, cond}
+use mathlib.Core.Bool.{cond}
 use mathlib.Core.List.{List, [], _∷_}
 use Prim.Native.Nat.{ℕ, zero, suc, _-_}
 use lib.Dec.{ltb}
 use lib.ListN.{length}
 use Rattle.time_table.specs.declared.Row.{Row}
-use Rattle.time_table.specs.declared.time_table_over_interval_incremental.Conflict.{Conflict}
+use Rattle.time_table.specs.declared.Conflict.{Conflict}
 use Rattle.time_table.specs.Rows.{rowOf, tableOf}
 use Rattle.time_table.specs.Meaning.{total}
 use Rattle.time_table.specs.Overload.{conflictIn}
@@ -54,10 +54,6 @@ rowsBy ts (a ∷ bs) = rowsFrom ts a bs
 
 unfoldable pub sweep : List Task → List Row
 sweep ts = rowsBy ts (cuts ts)
-
--- the answer where a row is too high
-abbrev pub overloadedBy : Row → Swept
-overloadedBy row = record { overloaded = true; row = row; table = tableOf [] }
 
 -- the answer: overloaded with the earliest row that is too high, if there is one, and else the table of the rows
 abbrev pub sweptBy : Conflict → List Row → Swept

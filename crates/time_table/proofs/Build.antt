@@ -1,13 +1,11 @@
 -- A table that is built row by row: what is done and what is left make up the whole.
 -- Assumes nothing.
-use mathlib.Core.Path.{_≡_, refl, sym, _∙_}
+use mathlib.Core.Path.{_≡_, sym, _∙_}
 use mathlib.Core.List.{List, [], _++_, append-assoc, append-nil}
 use Prim.Native.Nat.{ℕ}
-use native.Mathlib.Omega.{arith}
 use Rattle.time_table.specs.declared.Row.{Row}
-use Rattle.time_table.specs.declared.Table.{Table}
 use Rattle.time_table.specs.Held.{Held}
-use Rattle.time_table.specs.Rows.{emptyRow, tableOf}
+use Rattle.time_table.specs.Rows.{emptyRow}
 use Rattle.time_table.proofs.Held.{held-as}
 
 -- of the rows `whole`, the first n are built, and `rest` is still to come
@@ -24,7 +22,3 @@ module _ {whole rows : List Row} {n : ℕ} where
 
   pub built-all : {rest : List Row} → Built whole rest rows n → rest ≡ [] → Held 128 emptyRow rows n whole
   built-all b e = held-as (b .held) (sym (append-nil (b .done)) ∙ rw (← e) (b .joins))
-
--- the table of no rows holds none
-pub table-held : {t : Table} → t ≡ tableOf [] → Held 128 emptyRow (t .rows) (t .count) []
-table-held e = rw e (record { is = refl; counts = refl; fits = omega arith })

@@ -1,7 +1,7 @@
 -- Edits of a table one after another, part by part: what is over, what is left to do, and that the table stays one that can be edited.
 -- Assumes nothing.
 use mathlib.Core.Path.{_≡_, refl, sym, ap, _∙_}
-use mathlib.Core.Bool.{Bool, true, false, true≢false, false≢true}
+use mathlib.Core.Bool.{true}
 use mathlib.Core.List.{List, [], _∷_}
 use Prim.Native.Nat.{ℕ, _+_, _≤_, _<_}
 use native.Mathlib.Numerals.{add-one}
@@ -12,10 +12,8 @@ use lib.Seq.{drop-cons, getD-take, take-append-seam}
 use Rattle.time_table.specs.declared.Row.{Row}
 use Rattle.time_table.specs.declared.Part.{Part}
 use Rattle.time_table.specs.declared.Table.{Table}
-use Rattle.time_table.specs.declared.Edited.{Edited}
 use Rattle.time_table.specs.declared.mandatory_part_adjustments.Parts.{Parts}
 use Rattle.time_table.specs.Rows.{rowsOf, tableOf, Clean}
-use Rattle.time_table.specs.Table.{verdict}
 use Rattle.time_table.specs.Adjustments.{emptyPart, heldParts, partsIn}
 use Rattle.time_table.specs.Insertion.{insertion}
 use Rattle.time_table.specs.Removal.{removal}
@@ -35,30 +33,10 @@ clean-of l le = held-as (record { is = refl; counts = refl; fits = le }) (sym (r
 pub table-self : (t : Table) → Clean t → tableOf (rowsOf t) ≡ t
 table-self t h = λ i. record { rows = sym (h .is) i; count = sym (h .counts) i }
 
--- what an answer says
-module _ (b : Bool) (t : Table) (l : List Row) (e : Edited) where
-  pub verdict-over : e ≡ verdict b t l → e .over ≡ true → b ≡ true
-  verdict-over is over = go b is
-    where
-      go : (v : Bool) → e ≡ verdict v t l → v ≡ true
-      go true f = refl
-      go false f = absurd (false≢true (sym (ap (λ (x : Edited). x .over) f) ∙ over))
-
-  pub verdict-fits : e ≡ verdict b t l → e .over ≡ false → b ≡ false
-  verdict-fits is fits = go b is
-    where
-      go : (v : Bool) → e ≡ verdict v t l → v ≡ false
-      go true f = absurd (true≢false (sym (ap (λ (x : Edited). x .over) f) ∙ fits))
-      go false f = refl
-
-  pub verdict-table : e ≡ verdict b t l → b ≡ false → e .table ≡ tableOf l
-  verdict-table is fits =
-      let whole : e ≡ record { over = false; table = tableOf l } = rw fits at is in
-      ap (λ (x : Edited). x .table) whole
-
-pub record Fitting (e : Edited) (l : List Row) : Type 0 where
+-- what a table is after an edit that has room
+pub record Fitting (t : Table) (l : List Row) : Type 0 where
   pub few : length l ≤ 128
-  pub is : e .table ≡ tableOf l
+  pub is : t ≡ tableOf l
 
 module _ (edit : Part → List Row → List Row) where
   pub over-here : (p : Part) (ps : List Part) (rows : List Row) → 128 < length (edit p rows) → overAfter edit (p ∷ ps) rows ≡ true
@@ -74,9 +52,9 @@ module _ (edit : Part → List Row → List Row) where
     pub rows : after edit ps (rowsOf t) ≡ after edit rest (rowsOf now)
     pub over : overAfter edit ps (rowsOf t) ≡ overAfter edit rest (rowsOf now)
 
-  pub down-on : {ps : List Part} {t now : Table} (p : Part) (rest : List Part) (e : Edited) → Down ps t (p ∷ rest) now → Fitting e (edit p (rowsOf now)) → Down ps t rest (e .table)
+  pub down-on : {ps : List Part} {t now : Table} (p : Part) (rest : List Part) (next : Table) → Down ps t (p ∷ rest) now → Fitting next (edit p (rowsOf now)) → Down ps t rest next
   unfolding after
-  down-on {ps} {t} {now} p rest e d f =
+  down-on {ps} {t} {now} p rest next d f =
       rw (f .is)
       (record {
         rows = rw (rows-of (edit p (rowsOf now))) (d .rows);
@@ -103,8 +81,8 @@ module _ (p : Part) (ps : List Part) (t : Table) where
   pub insert-first : Editable Puts (p ∷ ps) t → CanInsert p t
   insert-first s = can-insert t (s .runs) (s .steps .next) (s .usage) (s .clean) (s .right) (s .within) p (s .steps .of) (s .steps .goes)
 
-  pub remove-on : (e : Edited) → Editable Takes (p ∷ ps) t → Fitting e (removal p (rowsOf t)) → Editable Takes ps (e .table)
-  remove-on e s f =
+  pub remove-on : (next : Table) → Editable Takes (p ∷ ps) t → Fitting next (removal p (rowsOf t)) → Editable Takes ps next
+  remove-on next s f =
       rw (f .is)
       (record {
         runs = s .steps .next;
@@ -116,8 +94,8 @@ module _ (p : Part) (ps : List Part) (t : Table) where
         steps = s .steps .rest;
       })
 
-  pub insert-on : (e : Edited) → Editable Puts (p ∷ ps) t → Fitting e (insertion p (rowsOf t)) → Editable Puts ps (e .table)
-  insert-on e s f =
+  pub insert-on : (next : Table) → Editable Puts (p ∷ ps) t → Fitting next (insertion p (rowsOf t)) → Editable Puts ps next
+  insert-on next s f =
       rw (f .is)
       (record {
         runs = s .steps .next;

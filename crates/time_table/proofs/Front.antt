@@ -1,5 +1,5 @@
--- Rows written over a copy of other rows, from the front on: what is written, and then what the copy had from there on; and the places behind them
--- cleared, as far as the old rows went.
+-- Rows written over others in their place, from the front on: what is written, and then what was there; rows not read yet that are written over stand in
+-- a copy; and the places behind are cleared, as far as the old rows went.
 -- Assumes nothing.
 use mathlib.Core.Path.{_≡_, sym, ap, _∙_}
 use mathlib.Core.List.{List, [], _∷_, _++_, append-assoc, append-nil}
@@ -8,7 +8,7 @@ use native.Mathlib.Omega.{arith}
 use native.Mathlib.Nat.{sub-zero, zero-sub, suc-sub-suc}
 use native.Mathlib.Numerals.{add-one}
 use lib.ListN.{length, drop, set, replicate, length-append, replicate-append-replicate}
-use lib.Seq.{drop-cons, set-at, append-snoc, drop-drop, drop-at}
+use lib.Seq.{drop-cons, set-at, append-snoc, drop-drop, drop-at, getD-append-add, getD-drop}
 use Rattle.time_table.specs.declared.Row.{Row}
 use Rattle.time_table.specs.declared.Table.{Table}
 use Rattle.time_table.specs.Held.{Held}
@@ -45,6 +45,34 @@ module _ {source rows done : List Row} {n : ℕ} (f : Front source rows n done) 
 
   pub front-skip : n < 128 → Front source rows (n + 1) (done ++ rowAt source n ∷ [])
   front-skip lt = record { is = rw append-snoc (opened lt); counts = longer (rowAt source n); size = f .size; fits = omega arith }
+
+  -- what is behind is as it was
+  pub front-behind : (x : ℕ) → n ≤ x → rowAt rows x ≡ rowAt source x
+  front-behind x le =
+      let past : x ≡ length done + (x - n) = omega (arith, f .counts) in
+      let there : n + (x - n) ≡ x = omega arith in
+      (λ i. rowAt (f .is i) (past i)) ∙ getD-append-add done (drop n source) (x - n) noRow ∙ getD-drop n source (x - n) noRow ∙ ap (rowAt source) there
+
+-- where more rows are laid than read, those not read yet stand in a copy
+pub record Kept (source copy : List Row) (n i : ℕ) : Type 0 where
+  pub same : i < n → (x : ℕ) → i ≤ x → rowAt copy x ≡ rowAt source x
+
+-- the copy is made where the next row to be read is about to be laid over
+pub kept-copy : {source rows done : List Row} {n i : ℕ} → Front source rows n done → n ≡ i → Kept source rows (n + 1) i
+kept-copy f e = record { same = λ lt x le. front-behind f x (omega arith) }
+
+module _ {source copy : List Row} {n i : ℕ} (k : Kept source copy n i) where
+  pub kept-piece : (n ≡ i → ⊥) → Kept source copy (n + 1) i
+  kept-piece ne = record { same = λ lt x le. k .same (omega arith) x le }
+
+  pub kept-read : Kept source copy n (i + 1)
+  kept-read = record { same = λ lt x le. k .same (omega arith) x (omega arith) }
+
+  pub kept-moves : Kept source copy (n + 1) (i + 1)
+  kept-moves = record { same = λ lt x le. k .same (omega arith) x (omega arith) }
+
+pub kept-level : {source copy : List Row} {n i : ℕ} → n ≤ i → Kept source copy n i
+kept-level le = record { same = λ lt. absurd (omega arith) }
 
 -- the places behind the rows are cleared one by one
 drop-replicate : {A : Type 0} (k m : ℕ) (a : A) → drop k (replicate m a) ≡ replicate (m - k) a

@@ -11,7 +11,7 @@ pub mod Orders
 pub mod Stretch
 pub mod Build
 pub mod Apart
-pub mod Conflict
+pub mod Scan
 pub mod InsertionSum
 pub mod RemovalSum
 pub mod InsertionMeaning

@@ -2,7 +2,7 @@
 -- next.
 -- Assumes nothing.
 use mathlib.Core.Path.{_≡_, refl, sym, ap, _∙_}
-use mathlib.Core.Bool.{true, false, _||_, true≢false, false≢true}
+use mathlib.Core.Bool.{Bool, true, false, cond, _||_, true≢false, false≢true}
 use mathlib.Core.Logic.{_⊎_, inl, inr, ⊎-elim}
 use mathlib.Core.List.{List, [], _∷_}
 use Prim.Native.Nat.{ℕ, _+_, _-_, _≤_, _<_}
@@ -12,17 +12,16 @@ use lib.ListN.{length, drop, getD}
 use Rattle.time_table.specs.declared.Row.{Row}
 use Rattle.time_table.specs.declared.Part.{Part}
 use Rattle.time_table.specs.declared.Table.{Table}
-use Rattle.time_table.specs.declared.Edited.{Edited}
 use Rattle.time_table.specs.declared.part_by_part.Step.{Step}
 use Rattle.time_table.specs.declared.mandatory_part_adjustments.MandatoryPartAdjustments.{MandatoryPartAdjustments}
 use Rattle.time_table.specs.Held.{Held}
-use Rattle.time_table.specs.Rows.{emptyRow, rowsOf, tableOf}
-use Rattle.time_table.specs.Table.{verdict}
+use Rattle.time_table.specs.Rows.{emptyRow, rowsOf, tableOf, Clean}
+use Rattle.time_table.specs.Table.{judged, verdict}
 use Rattle.time_table.specs.Adjustments.{emptyPart, heldParts, partsIn, adjustments, removedParts, addedParts}
 use Rattle.time_table.specs.Insertion.{insertion}
 use Rattle.time_table.specs.Removal.{removal}
 use Rattle.time_table.specs.Stepping.{stepAt}
-use Rattle.time_table.specs.Update.{after, overAfter, updated, Updatable}
+use Rattle.time_table.specs.Update.{after, overAfter, updateOver, updatedRows, updated, Updatable}
 use Rattle.time_table.proofs.Editing.{stepped, CanStep, Puts, Takes, Editable}
 use Rattle.time_table.proofs.Front.{Cleared}
 use Rattle.time_table.proofs.Edits.{Down, down-on, over-here, rows-of, table-self, part-next, part-end, Fitting, remove-first, insert-first, remove-on, insert-on}
@@ -34,12 +33,13 @@ abbrev pub tabled : List Row → ℕ → Table
 tabled rows count = record { rows = rows; count = count }
 
 module _ (a : MandatoryPartAdjustments) (t : Table) where
-  -- the answer of an update with these parts
-  pub answer : Edited
-  answer =
-      let out = partsIn (a .removed) in
-      let into = partsIn (a .added) in
-      verdict (overAfter removal out (rowsOf t) || overAfter insertion into (after removal out (rowsOf t))) t (after insertion into (after removal out (rowsOf t)))
+  -- whether an update with these parts is over, and the rows that it comes to
+  pub overAll : Bool
+  overAll =
+      overAfter removal (partsIn (a .removed)) (rowsOf t) || overAfter insertion (partsIn (a .added)) (after removal (partsIn (a .removed)) (rowsOf t))
+
+  pub rowsAll : List Row
+  rowsAll = after insertion (partsIn (a .added)) (after removal (partsIn (a .removed)) (rowsOf t))
 
   -- k parts are done, all of them removed ones; and the added ones can follow
   pub record Removing (k : ℕ) (now : Table) : Type 0 where
@@ -85,7 +85,7 @@ module _ (a : MandatoryPartAdjustments) (t : Table) where
   -- a step can be made, is over and with it the update, or leads on
   pub record Turn (k : ℕ) (now : Table) (s : Step) : Type 0 where
     pub can : CanStep s now
-    pub over : 128 < length (stepped s (s .part .from) (rowsOf now)) → _≡_ {A = Edited} (record { table = t; over = true }) answer
+    pub over : 128 < length (stepped s (s .part .from) (rowsOf now)) → overAll ≡ true
     pub next : (rows : List Row) (n : ℕ) → Held 128 emptyRow rows n (stepped s (s .part .from) (rowsOf now)) → Progress (k + 1) (tabled rows n)
 
   -- the step is laid, and the places behind it are being cleared
@@ -94,16 +94,18 @@ module _ (a : MandatoryPartAdjustments) (t : Table) where
     pub next : (rows : List Row) (n : ℕ) → Held 128 emptyRow rows n whole → Progress (k + 1) (tabled rows n)
     pub cleared : Cleared whole count rows n at
 
-  edited-to : List Row → ℕ → Edited
-  edited-to rows n = record { table = tabled rows n; over = false }
+  -- the parts are done, or one of them is over
+  pub record Ended (over : Bool) (now : Table) : Type 0 where
+    pub is-over : over ≡ overAll
+    pub is : now ≡ cond over t (tableOf rowsAll)
+    pub clean : Clean now
 
-  fitting : {rows l : List Row} {n : ℕ} → Held 128 emptyRow rows n l → Fitting (edited-to rows n) l
-  unfolding edited-to
+  fitting : {rows l : List Row} {n : ℕ} → Held 128 emptyRow rows n l → Fitting (tabled rows n) l
   fitting h = record { few = omega (arith, h .counts, h .fits); is = λ i. record { rows = h .is i; count = h .counts i } }
 
   module _ {k : ℕ} {now : Table} (p : Progress k now) where
     removing-turn : k < a .removed .count → Removing k now → Turn k now (record { part = getD (a .removed .parts) k emptyPart; taking = true })
-    unfolding answer edited-to
+    unfolding overAll
     removing-turn lt r =
         let part = getD (a .removed .parts) k emptyPart in
         let rest = drop (k + 1) (partsIn (a .removed)) in
@@ -120,8 +122,8 @@ module _ (a : MandatoryPartAdjustments) (t : Table) where
                 added = p .added;
                 phase = inl (record {
                   few = omega arith;
-                  editable = remove-on part rest now (edited-to rows n) editable (fitting h);
-                  down = down-on removal part rest (edited-to rows n) down (fitting h);
+                  editable = remove-on part rest now (tabled rows n) editable (fitting h);
+                  down = down-on removal part rest (tabled rows n) down (fitting h);
                   later = r .later;
                 });
               };
@@ -129,7 +131,7 @@ module _ (a : MandatoryPartAdjustments) (t : Table) where
 
     adding-turn : k < a .removed .count + a .added .count → Adding k now
         → Turn k now (record { part = getD (a .added .parts) (k - a .removed .count) emptyPart; taking = false })
-    unfolding answer edited-to
+    unfolding overAll
     adding-turn lt g =
         let j = k - a .removed .count in
         let part = getD (a .added .parts) j emptyPart in
@@ -153,8 +155,8 @@ module _ (a : MandatoryPartAdjustments) (t : Table) where
                   mid = g .mid;
                   fits = g .fits;
                   is = g .is;
-                  editable = rw onward (insert-on part rest now (edited-to rows n) editable (fitting h));
-                  down = rw onward (down-on insertion part rest (edited-to rows n) down (fitting h));
+                  editable = rw onward (insert-on part rest now (tabled rows n) editable (fitting h));
+                  down = rw onward (down-on insertion part rest (tabled rows n) down (fitting h));
                 });
               };
         }
@@ -168,15 +170,19 @@ module _ (a : MandatoryPartAdjustments) (t : Table) where
         (lt-or-le k (a .removed .count))
 
     -- behind the last part the table is the answer
-    pub finished : a .removed .count + a .added .count ≤ k → _≡_ {A = Edited} (record { table = now; over = false }) answer
-    unfolding answer after overAfter
+    pub finished : a .removed .count + a .added .count ≤ k → Ended false now
+    unfolding overAll rowsAll after overAfter
     finished le =
         let g = adding p (omega arith) in
         let j = k - a .removed .count in
         let past : a .added .count ≤ j = omega (arith, g .many) in
         let down : Down insertion (partsIn (a .added)) (g .mid) [] now = rw (part-end (a .added) j (p .added) past) at (g .down) in
         let begun : rowsOf (g .mid) ≡ after removal (partsIn (a .removed)) (rowsOf t) = rw (g .is) (rows-of _) in
-        rw (g .fits, ← begun, down .over, down .rows, table-self now (g .editable .clean))
+        record {
+          is-over = rw (g .fits, ← begun, down .over) refl;
+          is = rw (← begun, down .rows, table-self now (g .editable .clean)) refl;
+          clean = g .editable .clean;
+        }
 
 -- from the table as it was; and the answer is that of the update
 module _ (old new : Part) (t : Table) (a : MandatoryPartAdjustments) (e : a ≡ adjustments old new) where
@@ -199,6 +205,10 @@ module _ (old new : Part) (t : Table) (a : MandatoryPartAdjustments) (e : a ≡ 
         });
       }
 
-  pub answer-is : answer a t ≡ updated old new t
-  unfolding answer updated
-  answer-is = rw (out-is, in-is)
+  pub ended-is : (capacity : ℕ) (over : Bool) (now : Table) → Ended a t over now → judged capacity over now ≡ updated capacity old new t
+  unfolding overAll rowsAll updated
+  ended-is capacity over now e' =
+      let flag : over ≡ updateOver old new (rowsOf t) = e' .is-over ∙ rw (out-is, in-is) refl in
+      let rows : rowsAll a t ≡ updatedRows old new (rowsOf t) = rw (out-is, in-is) refl in
+      ap (judged capacity over) (e' .is ∙ ap (λ (l : List Row). cond over t (tableOf l)) rows)
+      ∙ ap (λ (b : Bool). verdict capacity b t (updatedRows old new (rowsOf t))) flag

@@ -12,20 +12,19 @@ use lib.Seq.{take-append-seam}
 use Rattle.time_table.specs.declared.Row.{Row}
 use Rattle.time_table.specs.declared.Part.{Part}
 use Rattle.time_table.specs.declared.Table.{Table}
-use Rattle.time_table.specs.declared.Edited.{Edited}
 use Rattle.time_table.specs.Rows.{rowsOf, tableOf, Clean}
 use Rattle.time_table.specs.Adjustments.{stretch, leftOf, partsOf, partsIn, heldParts, removedParts, addedParts}
 use Rattle.time_table.specs.Insertion.{insertion}
 use Rattle.time_table.specs.Removal.{removal}
 use Rattle.time_table.specs.Meaning.{has, Right}
-use Rattle.time_table.specs.Update.{updateOver, updatedRows, moved, after, overAfter, updated, Updatable}
+use Rattle.time_table.specs.Update.{updateOver, updatedRows, moved, after, overAfter, Updatable}
 use Rattle.time_table.proofs.Editing.{Puts, Takes, Editable}
 use Rattle.time_table.proofs.Held.{held-as}
 use Rattle.time_table.proofs.Adjusted.{stretch-none, stretch-some}
 use Rattle.time_table.proofs.Left.{left}
 use Rattle.time_table.proofs.Steps.{removals-right}
 use Rattle.time_table.proofs.AdjustedRight.{both, removed-steps, added-steps, moved-within, adjusted-right}
-use Rattle.time_table.proofs.Edits.{rows-of, clean-of, verdict-over, verdict-fits, verdict-table}
+use Rattle.time_table.proofs.Edits.{rows-of, clean-of}
 use Rattle.time_table.proofs.Sums.{lt-or-le}
 
 -- an adjustment has two parts at most on each side
@@ -90,24 +89,18 @@ neither true b e = absurd (true≢false e)
 neither false b e = (refl, e)
 
 module _ (old new : Part) (t : Table) where
-  pub updated-over : (e : Edited) → e ≡ updated old new t → e .over ≡ true → updateOver old new (rowsOf t) ≡ true
-  unfolding updated
-  updated-over e is over = verdict-over (updateOver old new (rowsOf t)) t (updatedRows old new (rowsOf t)) e is over
-
   -- it fits, and each of its parts did
-  pub record UpdateFits (e : Edited) : Type 0 where
+  pub record UpdateFits (now : Table) : Type 0 where
     pub fits : updateOver old new (rowsOf t) ≡ false
-    pub is : e .table ≡ tableOf (updatedRows old new (rowsOf t))
+    pub is : now ≡ tableOf (updatedRows old new (rowsOf t))
     pub few : length (updatedRows old new (rowsOf t)) ≤ 128
 
-  pub updated-fits : (e : Edited) → Clean t → e ≡ updated old new t → e .over ≡ false → UpdateFits e
-  unfolding updated
-  updated-fits e clean is fits =
-      let no-over = verdict-fits (updateOver old new (rowsOf t)) t (updatedRows old new (rowsOf t)) e is fits in
-      let both = neither (overAfter removal (removedParts old new) (rowsOf t)) _ no-over in
+  pub update-fits : (now : Table) → Clean t → updateOver old new (rowsOf t) ≡ false → now ≡ tableOf (updatedRows old new (rowsOf t)) → UpdateFits now
+  update-fits now clean fits is =
+      let both = neither (overAfter removal (removedParts old new) (rowsOf t)) _ fits in
       record {
-        fits = no-over;
-        is = verdict-table (updateOver old new (rowsOf t)) t (updatedRows old new (rowsOf t)) e is no-over;
+        fits = fits;
+        is = is;
         few = after-short insertion (addedParts old new) _ (after-short removal (removedParts old new) (rowsOf t) (omega (arith, clean)) (both .0)) (both .1);
       }
 

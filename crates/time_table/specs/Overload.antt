@@ -4,7 +4,7 @@ use mathlib.Core.List.{List, [], _∷_}
 use Prim.Native.Nat.{ℕ}
 use lib.Dec.{ltb}
 use Rattle.time_table.specs.declared.Row.{Row}
-use Rattle.time_table.specs.declared.time_table_over_interval_incremental.Conflict.{Conflict}
+use Rattle.time_table.specs.declared.Conflict.{Conflict}
 use Rattle.time_table.specs.Rows.{emptyRow}
 
 unfoldable pub conflictIn : ℕ → List Row → Conflict

@@ -32,9 +32,9 @@ pub(crate) fn add_task_to_profile(profile: Row, part: Part) -> Row
     ensures { λ r. ⌜ r ≡ joined profile (part .id) (part .usage) ⌝ }
 {
     let mut row = profile;
-    let at = row.count;
+    let at = row.count as usize;
     row.ids[at] = part.id;
-    row.count = at + 1;
+    row.count = row.count + 1;
     row.height = row.height + part.usage;
     row
 }

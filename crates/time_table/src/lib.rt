@@ -31,7 +31,7 @@ pub struct Row {
     pub end: u32,
     pub height: u32,
     pub ids: [u8; 32],
-    pub count: usize,
+    pub count: u32,
 }
 
 // The rows of a time-table, in `rows` up to `count`. From there on they are the empty row.
@@ -40,9 +40,16 @@ pub struct Table {
     pub count: usize,
 }
 
-// A table after an edit; or the table as it was, and `over`.
+// A row that is too high, if there is one; else the empty row.
+pub struct Conflict {
+    pub found: bool,
+    pub row: Row,
+}
+
+// A table after an update, or the table as it was, and `over`; and its first row that is too high.
 pub struct Edited {
     pub table: Table,
+    pub conflict: Conflict,
     pub over: bool,
 }
 

@@ -16,7 +16,7 @@ pub(crate) fn position(profile: Row, id: u8) -> usize
     requires { ⌜ Listed profile ⌝ }
     ensures { λ r. ⌜ r ≡ position id (tasks profile) ⌝ }
 {
-    let count = profile.count;
+    let count = profile.count as usize;
     let ids = profile.ids;
     let mut at = 0;
     while at < count {
@@ -36,11 +36,12 @@ pub(crate) fn remove_task_from_profile(profile: Row, part: Part) -> Row
 {
     let at = position(profile, part.id);
     let mut row = profile;
-    let last = row.count - 1;
+    let left = row.count - 1;
+    let last = left as usize;
     let moved = row.ids[last];
     row.ids[at] = moved;
     row.ids[last] = 0;
-    row.count = last;
+    row.count = left;
     row.height = row.height - part.usage;
     row
 }

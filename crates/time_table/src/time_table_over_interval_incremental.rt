@@ -4,6 +4,7 @@ ghost use mathlib.Core.Path.{_≡_};
 ghost use Rattle.time_table.specs.Rows.{rowsOf, Clean};
 ghost use Rattle.time_table.specs.Update.{updated, Updatable};
 ghost use Rattle.time_table.specs.Overload.{conflictIn};
+use crate::Conflict;
 use crate::Edited;
 use crate::Part;
 use crate::Row;
@@ -12,29 +13,26 @@ use crate::mandatory_part_adjustments::get_mandatory_part_adjustments;
 use crate::part_by_part;
 use crate::pieces::Pieces;
 
-// A row that is too high, if there is one; else the empty row.
-pub struct Conflict {
-    pub found: bool,
-    pub row: Row,
-}
-
-// The table of a task's old mandatory part turned into that of its new one, or over: first what is
-// removed, then what is added. Each part finds the first row that does not end before it, by halving,
-// and goes on from there: it reads the rows from `source` at `i`, writes what becomes of them at `n`,
-// and clears the places of old rows that are left behind. One function does it all, since to hand the
-// rows to another would copy them.
-pub fn update_time_table(table: Table, old: Part, new: Part) -> Edited
+// The table of a task's old mandatory part turned into that of its new one, or over, and its first row
+// that is too high: first what is removed is done, then what is added. Each part finds the first row
+// that does not end before it, by halving, and goes on from there: it reads the rows at `i`, writes
+// what becomes of them at `n`, and clears the places of old rows that are left behind. Rows that would
+// be written over before they are read are read from a copy, `source`. One function does it all, since
+// to hand the rows to another would copy them.
+pub fn update_time_table(table: Table, old: Part, new: Part, capacity: u32) -> Edited
     requires { ⌜ Updatable old new table ⌝ }
-    ensures { λ r. ⌜ r ≡ updated old new table ⌝ }
+    ensures { λ r. ⌜ r ≡ updated capacity old new table ⌝ }
 {
     let adjustments = get_mandatory_part_adjustments(old, new);
     let steps = adjustments.removed.count + adjustments.added.count;
     let mut rows = table.rows;
     let mut count = table.count;
+    let empty = Row::empty();
+    let mut source = [empty; 128];
+    let mut over = false;
     let mut k = 0;
-    while k < steps {
+    'parts: while k < steps {
         let step = part_by_part::step_at(adjustments, k);
-        let source = rows;
         let mut from = step.part.from;
         let mut laid = Pieces::none();
         let mut j = 0;
@@ -42,7 +40,7 @@ pub fn update_time_table(table: Table, old: Part, new: Part) -> Edited
         let mut high = count;
         while low < high {
             let middle = low + (high - low) / 2;
-            let row = source[middle];
+            let row = rows[middle];
             if row.end < step.part.from {
                 low = middle + 1;
             } else {
@@ -55,7 +53,11 @@ pub fn update_time_table(table: Table, old: Part, new: Part) -> Edited
             if j < laid.count {
                 // a piece of the row before is still to be written
                 if n == Table::ROWS {
-                    return Edited { table, over: true };
+                    over = true;
+                    break 'parts;
+                }
+                if n == i {
+                    source = rows;
                 }
                 rows[n] = laid.rows[j];
                 n += 1;
@@ -66,7 +68,10 @@ pub fn update_time_table(table: Table, old: Part, new: Part) -> Edited
                 j = 0;
                 i += 1;
             } else {
-                let row = source[i];
+                let mut row = rows[i];
+                if i < n {
+                    row = source[i];
+                }
                 // a row that the part changes; else one that stays in its place, and so do all behind
                 // it; else one that moves
                 if !part_by_part::is_untouched(step, from, row) {
@@ -79,7 +84,8 @@ pub fn update_time_table(table: Table, old: Part, new: Part) -> Edited
                     i = count;
                 } else {
                     if n == Table::ROWS {
-                        return Edited { table, over: true };
+                        over = true;
+                        break 'parts;
                     }
                     rows[n] = row;
                     n += 1;
@@ -89,33 +95,32 @@ pub fn update_time_table(table: Table, old: Part, new: Part) -> Edited
         }
         let mut at = n;
         while at < count {
-            rows[at] = Row::empty();
+            rows[at] = empty;
             at += 1;
         }
         count = n;
         k += 1;
     }
-    Edited {
-        table: Table { rows, count },
-        over: false,
+    if over {
+        rows = table.rows;
+        count = table.count;
     }
-}
-
-// The first row that is higher than the capacity.
-pub fn find_conflicting_profile(table: Table, capacity: u32) -> Conflict
-    requires { ⌜ Clean table ⌝ }
-    ensures { λ r. ⌜ r ≡ conflictIn capacity (rowsOf table) ⌝ }
-{
+    let mut conflict = Conflict {
+        found: false,
+        row: empty,
+    };
     let mut at = 0;
-    while at < table.count {
-        let row = table.rows[at];
+    while at < count {
+        let row = rows[at];
         if capacity < row.height {
-            return Conflict { found: true, row };
+            conflict = Conflict { found: true, row };
+            break;
         }
         at += 1;
     }
-    Conflict {
-        found: false,
-        row: Row::empty(),
+    Edited {
+        table: Table { rows, count },
+        conflict,
+        over,
     }
 }

@@ -2,16 +2,19 @@
 -- Assumes nothing.
 use mathlib.Core.Path.{_≡_, sym, ap, _∙_}
 use mathlib.Core.Bool.{Bool, true}
+use Prim.Native.Nat.{_≤_, _<_}
 use borrow.Author.Tests.{not-true, not-false}
 use mir.Facts.{toZ-ofZ}
 use Rattle.planner.specs.declared.Checked.the-variants.{Accepted}
 use Rattle.planner.specs.Instants.{tick, amount}
 use Rattle.planner.specs.Checks.{boundsChecked}
-use Rattle.planner.specs.Updates.{known, acceptedUpdate}
+use Rattle.planner.specs.declared.Updated.{Updated}
+use Rattle.planner.specs.Updates.{known, acceptedUpdate, updated}
 use Rattle.planner.proofs.Signed.{bounds-read}
 use Rattle.planner.proofs.Accepted.{Bounds, bounds-accepted}
 use Rattle.planner.proofs.Known.{known-true}
 use Rattle.planner.proofs.Updating.{update-unknown, update-known}
+use native.Mathlib.Omega.{arith}
 use borrow.Author.Needs.{needs}
 use Rattle.planner.proofs.Plan.update.Statement.{statement}
 use Rattle.planner.proofs.Plan.update.Tie as tie
@@ -71,8 +74,8 @@ amount-of-requires c κs =
     let a = c .before .before .before .before .before in
     rw (toZ-ofZ (a .fits .id)) (known-true (a .args .self .tasks .count) (a .args .id) (is-true (c .before .before)) .0)
 
-cast-accepted-update : tie.Need-cast-accepted-update
-cast-accepted-update c = search needs
+cast-place : tie.Need-cast-place
+cast-place c = search needs
 
 tick-of-requires : tie.Need-tick-of-requires
 tick-of-requires c κs =
@@ -84,11 +87,30 @@ tick-of-requires-2 c κs =
     let e = c .before .before in
     rw (toZ-ofZ (e .before .before .before .before .before .fits .latest)) (bounds e .latest-in)
 
-accepted-update-requires : tie.Need-accepted-update-requires
-accepted-update-requires c κs =
-    let e = c .before .before .before in
-    let a = e .before .before .before .before .before in
-    (a .pre, rw (place c) (known-true (a .args .self .tasks .count) (a .args .id) (is-true (e .before .before)) .1), rw (first c, last c) (bounds e .order), rw (last c) (bounds e .top))
+-- what both kinds of update demand, and what they give
+module _ (c : tie.After-tick-of2) where
+  abbrev told : tie.After-enum-told
+  told = c .before .before .before
+
+  abbrev start : tie.Start
+  start = told .before .before .before .before .before
+
+  inside : (c .before .before .amount-of .result < start .args .self .tasks .count) × (c .before .tick-of .result ≤ c .tick-of2 .result) × (c .tick-of2 .result ≤ 2000000000)
+  inside =
+      let low = known-true (start .args .self .tasks .count) (start .args .id) (is-true (told .before .before)) .1 in
+      (omega (arith, place c), omega (arith, first c, last c, bounds told .order), omega (arith, last c, bounds told .top))
+
+  whole : {r : Updated} → r ≡ acceptedUpdate (start .args .self) (c .before .before .amount-of .result) (c .before .tick-of .result) (c .tick-of2 .result)
+      → r ≡ updated (start .args .self) (start .args .id) (start .args .earliest) (start .args .latest)
+  whole is =
+      is ∙ (λ i. acceptedUpdate (start .args .self) (place c i) (first c i) (last c i))
+      ∙ sym (update-known (start .args .self) (start .args .id) (start .args .earliest) (start .args .latest) Accepted (is-true (told .before .before)) (found (told .before .before) ∙ told .enum-told .given .1))
+
+live-update-requires : tie.Need-live-update-requires
+live-update-requires c κs = let t = c .before in (start t .pre, c .if2 .taken, inside t .0, inside t .1, inside t .2)
+
+stale-update-requires : tie.Need-stale-update-requires
+stale-update-requires c κs = let t = c .before in (start t .pre, c .if2 .left, inside t .0, inside t .1, inside t .2)
 
 returns-2 : tie.Need-returns-2
 returns-2 c =
@@ -99,14 +121,10 @@ returns-2 c =
     )
 
 returns-3 : tie.Need-returns-3
-returns-3 c =
-    let t = c .before in
-    let e = t .before .before .before in
-    let a = e .before .before .before .before .before in (
-      c .accepted-update .ensures .0 ∙ (λ i. acceptedUpdate (a .args .self) (place t i) (first t i) (last t i))
-          ∙ sym (update-known (a .args .self) (a .args .id) (a .args .earliest) (a .args .latest) Accepted (is-true (e .before .before)) (found (e .before .before) ∙ e .enum-told .given .1)),
-      c .accepted-update .ensures .1,
-    )
+returns-3 c = (whole (c .before .before) (c .live-update .ensures .0), c .live-update .ensures .1)
+
+returns-4 : tie.Need-returns-4
+returns-4 c = (whole (c .before .before) (c .stale-update .ensures .0), c .stale-update .ensures .1)
 
 pub update-spec : {M : Type 1} → statement M
 update-spec =
@@ -120,9 +138,11 @@ update-spec =
     refused-update-requires-2
     enum-told
     amount-of-requires
-    cast-accepted-update
+    cast-place
     tick-of-requires
     tick-of-requires-2
-    accepted-update-requires
+    live-update-requires
+    stale-update-requires
     returns-2
-    returns-3)
+    returns-3
+    returns-4)

@@ -13,15 +13,18 @@ instant-of-requires c κs = search needs
 instant-of-requires-2 : tie.Need-instant-of-requires-2
 instant-of-requires-2 c κs = search needs
 
+cast-t5 : tie.Need-cast-t5
+cast-t5 c = search needs
+
 returns : tie.Need-returns
 returns c =
     λ i. record {
-      start = (toZ-ofZ {w = w32} {z = c .before .instant-of .result} (record { sfits = c .before .instant-of .ok }) ∙ c .before .instant-of .ensures) i;
-      end = (toZ-ofZ {w = w32} {z = c .instant-of2 .result} (record { sfits = c .instant-of2 .ok }) ∙ c .instant-of2 .ensures) i;
-      height = c .before .before .before .args .row .height;
-      ids = c .before .before .before .args .row .ids;
-      count = c .before .before .before .args .row .count;
+      start = (toZ-ofZ {w = w32} {z = c .before .before .instant-of .result} (record { sfits = c .before .before .instant-of .ok }) ∙ c .before .before .instant-of .ensures) i;
+      end = (toZ-ofZ {w = w32} {z = c .before .instant-of2 .result} (record { sfits = c .before .instant-of2 .ok }) ∙ c .before .instant-of2 .ensures) i;
+      height = c .before .before .before .before .args .row .height;
+      ids = c .before .before .before .before .args .row .ids;
+      count = c .before .before .before .before .args .row .count;
     }
 
 pub record-of-spec : {M : Type 1} → statement M
-record-of-spec = tie.close (tie.spec instant-of-requires instant-of-requires-2 returns)
+record-of-spec = tie.close (tie.spec instant-of-requires instant-of-requires-2 cast-t5 returns)

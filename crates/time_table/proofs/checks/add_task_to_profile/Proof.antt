@@ -7,6 +7,9 @@ use borrow.Author.Needs.{needs}
 use Rattle.time_table.proofs.checks.add_task_to_profile.Statement.{statement}
 use Rattle.time_table.proofs.checks.add_task_to_profile.Tie as tie
 
+cast-at : tie.Need-cast-at
+cast-at c = search needs
+
 element-write-row : tie.Need-element-write-row
 element-write-row c = search needs
 
@@ -23,4 +26,4 @@ returns c =
     row-held _ _ _ (held-push (b .pre .0) (b .args .part .id) (b .pre .1 .0))
 
 pub add-task-to-profile-spec : {M : Type 1} → statement M
-add-task-to-profile-spec = tie.close (tie.spec element-write-row add-row add-row-2 returns)
+add-task-to-profile-spec = tie.close (tie.spec cast-at element-write-row add-row add-row-2 returns)

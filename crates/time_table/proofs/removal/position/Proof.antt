@@ -18,6 +18,9 @@ Inv-loop id count ids at₀ at = (at ≤ count) × (length (take count ids) ≡ 
 abbrev μ-loop : tie.MeasureT-loop
 μ-loop id count ids at₀ at = count - at
 
+cast-count : tie.Need-cast-count Inv-loop μ-loop
+cast-count c = omega arith
+
 loop-holds : tie.Need-loop-holds Inv-loop μ-loop
 loop-holds c = omega arith
 
@@ -27,7 +30,7 @@ array-read-if1 c = omega arith
 returns : tie.Need-returns Inv-loop μ-loop
 returns c =
     let p = c .before .before .loop in
-    let r = c .before .before .before .before .args in
+    let r = c .before .before .before .before .before .args in
     let lt : p .at < length (tasks (r .profile)) = omega arith in
     omega (arith, here (r .id) (tasks (r .profile)) (p .at) lt (getD-take _ _ _ _ (c .before .loop-test .taken) ∙ c .if1 .taken))
 
@@ -40,7 +43,7 @@ loop-less c = omega arith
 loop-again : tie.Need-loop-again Inv-loop μ-loop
 loop-again c =
     let p = c .before .before .loop in
-    let r = c .before .before .before .before .args in
+    let r = c .before .before .before .before .before .args in
     let lt : p .at < length (tasks (r .profile)) = omega arith in
     let on = further (r .id) (tasks (r .profile)) (p .at) lt (λ e. c .if1 .left (sym (getD-take _ _ _ _ (c .before .loop-test .taken)) ∙ e)) in
     (omega arith, omega arith, omega arith, rw add-one (omega arith))
@@ -48,7 +51,7 @@ loop-again c =
 returns-2 : tie.Need-returns-2 Inv-loop μ-loop
 returns-2 c =
     let p = c .before .loop in
-    let r = c .before .before .before .args in
+    let r = c .before .before .before .before .args in
     omega (arith, nowhere (r .id) (tasks (r .profile)) (p .at) (omega arith))
 
 pub position-spec : {M : Type 1} → statement M
@@ -57,6 +60,7 @@ position-spec =
     (tie.spec
     Inv-loop
     μ-loop
+    cast-count
     loop-holds
     array-read-if1
     returns

@@ -10,8 +10,11 @@ use Rattle.time_table.proofs.removal.remove_task_from_profile.Tie as ti
 position-requires : tie.Need-position-requires
 position-requires c κs = search needs
 
-sub-last : tie.Need-sub-last
-sub-last c = search needs
+sub-left : tie.Need-sub-left
+sub-left c = search needs
+
+cast-last : tie.Need-cast-last
+cast-last c = search needs
 
 element-copy-out-moved : tie.Need-element-copy-out-moved
 element-copy-out-moved c = search needs
@@ -37,7 +40,8 @@ remove-task-from-profile-spec =
     tie.close
     (tie.spec
     position-requires
-    sub-last
+    sub-left
+    cast-last
     element-copy-out-moved
     element-write-row
     element-write-row-2

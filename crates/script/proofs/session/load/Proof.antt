@@ -5,8 +5,8 @@ use mir.Facts.{toZ-ofZ}
 use Rattle.planner.specs.History.{withoutPlaces}
 use Rattle.planner.specs.Loads.{loaded}
 use borrow.Author.Needs.{needs}
-use Rattle.script.proofs.kept.load.Statement.{statement}
-use Rattle.script.proofs.kept.load.Tie as tie
+use Rattle.script.proofs.session.load.Statement.{statement}
+use Rattle.script.proofs.session.load.Tie as tie
 
 load-requires : tie.Need-load-requires
 load-requires c κs = search needs
