@@ -1,32 +1,34 @@
 -- A step of an update goes from row to row: what it has laid, and what it makes of the rows that are left, are what it makes of all rows.
 -- Assumes nothing.
-use mathlib.Core.Path.{_≡_, refl, ap}
+use mathlib.Core.Path.{_≡_, refl, sym, ap, _∙_}
 use mathlib.Core.Bool.{Bool, true, false, cond, not, _&&_, _||_, false≢true}
 use mathlib.Core.Logic.{_⊎_, inl, inr, ⊎-elim}
-use mathlib.Core.List.{List, [], _∷_, _++_, append-nil}
+use mathlib.Core.List.{List, [], _∷_, _++_, append-assoc, append-nil}
 use Prim.Native.Nat.{ℕ, zero, suc, _+_, _-_, _≤_, _<_, _^_}
 use native.Mathlib.Omega.{arith}
 use native.Mathlib.Numerals.{add-one}
-use borrow.Author.Tests.{lt-ltb, le-ltb, lt-leb, le-leb, leb-true}
+use borrow.Author.Tests.{lt-ltb, le-ltb, le-leb, leb-true}
 use lib.Dec.{leb}
 use lib.ListN.{length, drop, set, length-append, drop-of-length-le}
 use lib.Seq.{drop-cons, getD-take, append-snoc}
 use Rattle.time_table.specs.declared.Row.{Row}
+use Rattle.time_table.specs.declared.Part.{Part}
 use Rattle.time_table.specs.declared.Table.{Table}
-use Rattle.time_table.specs.declared.pieces.Pieces.{Pieces}
+use Rattle.time_table.specs.declared.pieces.Piece.{Piece}
 use Rattle.time_table.specs.declared.part_by_part.Step.{Step}
 use Rattle.time_table.specs.Rows.{noRow, rowAt, rowsOf, Clean, cut}
 use Rattle.time_table.specs.Order.{Each, ticks}
-use Rattle.time_table.specs.Pieces.{heldPieces, piecesIn}
+use Rattle.time_table.specs.Pieces.{Cuts, beforePart, afterPart}
 use Rattle.time_table.specs.Overlap.{overlaps}
-use Rattle.time_table.specs.Insertion.{alone, grown, startedAt, pastRow, insertion, Insertable}
-use Rattle.time_table.specs.Removal.{reduced, removal, Removable}
-use Rattle.time_table.specs.Stepping.{made, madeLast, untouched, Changeable}
+use Rattle.time_table.specs.Insertion.{alone, gapBefore, heightened, grown, startedAt, pastRow, insertion, Insertable}
+use Rattle.time_table.specs.Removal.{lessened, reduced, removal, Removable}
+use Rattle.time_table.specs.Stepping.{partAt, piecesFrom, NextPiece, madeLast, untouched, Changeable}
 use Rattle.time_table.proofs.Editing.{stepped, CanStep}
-use Rattle.time_table.proofs.Held.{held-length, held-list, held-self}
+use Rattle.time_table.proofs.Held.{held-length}
+use Rattle.time_table.proofs.Piecewise.{no-piece}
 use Rattle.time_table.proofs.Cut.{cut-none}
 use Rattle.time_table.proofs.AtRow.{each-at, ordered-at, ordered-apart}
-use Rattle.time_table.proofs.Front.{Front, front-as, front-store, front-skip}
+use Rattle.time_table.proofs.Front.{Front, front-as, front-store, front-skip, Kept, kept-moves}
 use Rattle.time_table.proofs.Heightened.{insertable-later}
 use Rattle.time_table.proofs.Apart.{reduced-early, reduced-late, grown-early, grown-late}
 use Rattle.time_table.proofs.Sums.{lt-or-le}
@@ -41,14 +43,18 @@ module _ (s : Step) (x : ℕ) where
       go true = refl
       go false = refl
 
-  stepped-cons : (r : Row) (rs : List Row) → stepped s x (r ∷ rs) ≡ made s x r ++ stepped s (pastRow (startedAt (s .part) x) r) rs
+  stepped-cons : (r : Row) (rs : List Row) → stepped s x (r ∷ rs) ≡ piecesFrom (s .taking) (partAt s x) r 0 ++ stepped s (pastRow (startedAt (s .part) x) r) rs
   unfolding removal insertion
   stepped-cons r rs = go (s .taking)
     where
       go : (b : Bool) → cond b (removal (s .part) (r ∷ rs)) (insertion (startedAt (s .part) x) (r ∷ rs))
-          ≡ cond b (reduced (s .part) r) (grown (startedAt (s .part) x) r) ++ cond b (removal (s .part) rs) (insertion (startedAt (s .part) (pastRow (startedAt (s .part) x) r)) rs)
-      go true = refl
-      go false = refl
+          ≡ piecesFrom b (cond b (s .part) (startedAt (s .part) x)) r 0
+          ++ cond b (removal (s .part) rs) (insertion (startedAt (s .part) (pastRow (startedAt (s .part) x) r)) rs)
+      go true = ap (λ (l : List Row). l ++ removal (s .part) rs) (append-assoc (beforePart (s .part) r) (lessened (s .part) r) (afterPart (s .part) r))
+      go false =
+          let q = startedAt (s .part) x in
+          ap (λ (l : List Row). l ++ insertion (startedAt (s .part) (pastRow q r)) rs)
+          (append-assoc (gapBefore q r ++ beforePart q r) (heightened q r) (afterPart q r) ∙ append-assoc (gapBefore q r) (beforePart q r) (heightened q r ++ afterPart q r))
 
 -- what a test says
 either : (a b : Bool) → (a || b) ≡ true → (a ≡ true) ⊎ (b ≡ true)
@@ -109,38 +115,34 @@ row-of P t i h lt all =
     let within : i < length (rowsOf t) = omega (arith, h .counts) in
     rw (← (getD-take (t .count) (t .rows) i noRow lt)) (each-at P (rowsOf t) i within all)
 
--- what is left of the rows behind the first i; nothing, once the last piece is there
-pub rest : Step → ℕ → Table → ℕ → List Row
-rest s x t i = cond (leb i (t .count)) (stepped s x (drop i (rowsOf t))) []
-
 -- the row i is laid as it is
 pub Stays : Step → Table → ℕ → ℕ → Type 0
 Stays s t x i = stepped s x (rowAt (t .rows) i ∷ drop (i + 1) (rowsOf t)) ≡ rowAt (t .rows) i ∷ stepped s x (drop (i + 1) (rowsOf t))
 
--- a step of the table t has laid n rows, has come to the instant x and the row i, and has pieces from j on to lay next
-pub record Laid (s : Step) (t : Table) (rows : List Row) (n x i : ℕ) (p : Pieces) (j : ℕ) : Type 0 where
+-- a step of the table t has laid n rows, has come to the instant x and the row i, and has of the row r, which it came to at the instant y, the pieces from
+-- j on to lay next
+pub record Laid (s : Step) (t : Table) (rows : List Row) (n x i : ℕ) (r : Row) (y j : ℕ) : Type 0 where
   pub done : List Row
   pub front : Front (t .rows) rows n done
-  pub held : heldPieces p (piecesIn p)
-  pub within : j ≤ p .count
+  pub can : j < 4 → Changeable (s .taking) (partAt s y) r
+  pub within : j ≤ 4
   pub low : s .part .from ≤ x
   pub high : x ≤ s .part .until
-  pub far : i ≤ t .count + 1
-  pub joins : done ++ (drop j (piecesIn p) ++ rest s x t i) ≡ stepped s (s .part .from) (rowsOf t)
+  pub far : i ≤ t .count
+  pub joins : done ++ (piecesFrom (s .taking) (partAt s y) r j ++ stepped s x (drop i (rowsOf t))) ≡ stepped s (s .part .from) (rowsOf t)
 
 module _ (s : Step) (t : Table) (can : CanStep s t) where
-  laid-start : (none : Pieces) → heldPieces none [] → Laid s t (t .rows) 0 (s .part .from) 0 none 0
-  unfolding rest
-  laid-start none h =
+  laid-start : (r : Row) (y : ℕ) → Laid s t (t .rows) 0 (s .part .from) 0 r y 4
+  laid-start r y =
       record {
         done = [];
         front = record { is = refl; counts = refl; size = held-length (can .arranged .clean); fits = omega arith };
-        held = held-self h;
+        can = λ lt. absurd (omega arith);
         within = omega arith;
         low = omega arith;
         high = omega (arith, can .some);
         far = omega arith;
-        joins = rw (held-list h, le-leb 0 (t .count) (omega arith));
+        joins = refl;
       }
 
   -- the row at a place
@@ -154,113 +156,118 @@ module _ (s : Step) (t : Table) (can : CanStep s t) where
         let w = ordered-at ticks 0 (rowsOf t) i inside (can .arranged .ordered) in
         rw (← (getD-take (t .count) (t .rows) i noRow lt)) (w .1, omega (arith, w .2))
 
-    pub row-changeable : (x : ℕ) → s .part .from ≤ x → Changeable s x (rowAt (t .rows) i)
+    pub row-changeable : (x : ℕ) → s .part .from ≤ x → Changeable (s .taking) (partAt s x) (rowAt (t .rows) i)
     row-changeable x le =
         record {
-          out = λ e. row-of (Removable (s .part)) t i (can .arranged .clean) lt (can .out e);
-          into = λ e. insertable-later (s .part) _ x le (row-of (Insertable (s .part)) t i (can .arranged .clean) lt (can .into e));
+          out = λ e. rw e (row-of (Removable (s .part)) t i (can .arranged .clean) lt (can .out e));
+          into = λ e. rw e (insertable-later (s .part) _ x le (row-of (Insertable (s .part)) t i (can .arranged .clean) lt (can .into e)));
         }
 
-    rest-here : (x : ℕ) → rest s x t i ≡ stepped s x (rowAt (t .rows) i ∷ drop (i + 1) (rowsOf t))
-    unfolding rest
-    rest-here x =
+    next-here : drop i (rowsOf t) ≡ rowAt (t .rows) i ∷ drop (i + 1) (rowsOf t)
+    next-here =
         let inside : i < length (rowsOf t) = omega (arith, can .arranged .clean .counts) in
-        rw (le-leb i (t .count) (omega arith), add-one i, ← (getD-take (t .count) (t .rows) i noRow lt))
-        (ap (λ (l : List Row). stepped s x l) (drop-cons (rowsOf t) i noRow inside))
+        rw (add-one i, ← (getD-take (t .count) (t .rows) i noRow lt)) (drop-cons (rowsOf t) i noRow inside)
 
-    rest-next : (x : ℕ) → rest s x t (i + 1) ≡ stepped s x (drop (i + 1) (rowsOf t))
-    unfolding rest
-    rest-next x = rw (le-leb (i + 1) (t .count) (omega arith))
+  module _ {rows : List Row} {n x i y j : ℕ} {r : Row} (l : Laid s t rows n x i r y j) where
+    -- a piece is laid, or there is none
+    module _ (piece : Piece) (next : NextPiece (s .taking) (partAt s y) r j piece) where
+      some : piece .some ≡ true → piecesFrom (s .taking) (partAt s y) r j ≡ piece .row ∷ piecesFrom (s .taking) (partAt s y) r (piece .next)
+      some e = next .is ∙ ap (λ (b : Bool). cond b (piece .row ∷ []) [] ++ piecesFrom (s .taking) (partAt s y) r (piece .next)) e
 
-  module _ {rows : List Row} {n x i j : ℕ} {p : Pieces} (l : Laid s t rows n x i p j) where
-    -- a piece is laid
-    piece-next : j < p .count → drop j (piecesIn p) ≡ rowAt (p .rows) j ∷ drop (j + 1) (piecesIn p)
-    piece-next lt =
-        let inside : j < length (piecesIn p) = omega (arith, l .held .counts) in
-        rw (add-one j, ← (getD-take (p .count) (p .rows) j noRow lt)) (drop-cons (piecesIn p) j noRow inside)
+      pub laid-piece : piece .some ≡ true → n < 128 → j < 4 → Laid s t (set rows n (piece .row)) (n + 1) x i r y (piece .next)
+      laid-piece e room lt =
+          record {
+            done = l .done ++ piece .row ∷ [];
+            front = front-store (l .front) room (piece .row);
+            can = λ h. l .can lt;
+            within = next .upto;
+            low = l .low;
+            high = l .high;
+            far = l .far;
+            joins = rw append-snoc (ap (λ (p : List Row). l .done ++ (p ++ stepped s x (drop i (rowsOf t)))) (sym (some e)) ∙ l .joins);
+          }
 
-    pub laid-piece : j < p .count → n < 128 → Laid s t (set rows n (rowAt (p .rows) j)) (n + 1) x i p (j + 1)
-    laid-piece lt room =
-        record {
-          done = l .done ++ rowAt (p .rows) j ∷ [];
-          front = front-store (l .front) room (rowAt (p .rows) j);
-          held = l .held;
-          within = omega arith;
-          low = l .low;
-          high = l .high;
-          far = l .far;
-          joins = rw append-snoc (rw (piece-next lt) at (l .joins));
-        }
-
-    pub piece-over : j < p .count → 128 ≤ n → 128 < length (stepped s (s .part .from) (rowsOf t))
-    piece-over lt full = rw (← (l .joins), piece-next lt, length-append) (omega (arith, l .front .counts))
-
-    -- no piece is left
-    module _ (none : p .count ≤ j) where
-      spent : l .done ++ rest s x t i ≡ stepped s (s .part .from) (rowsOf t)
-      spent =
-          let past : length (piecesIn p) ≤ j = omega (arith, l .held .counts) in
-          rw (drop-of-length-le (piecesIn p) past) at (l .joins)
-
-      pub laid-last : i ≡ t .count → (q : Pieces) → heldPieces q (madeLast s x) → Laid s t rows n x (i + 1) q 0
-      unfolding rest
-      laid-last e q h =
-          let past : length (rowsOf t) ≤ i = omega (arith, can .arranged .clean .counts) in
+      pub laid-none : piece .some ≡ false → j < 4 → Laid s t rows n x i r y (piece .next)
+      laid-none e lt =
+          let same : piecesFrom (s .taking) (partAt s y) r j ≡ piecesFrom (s .taking) (partAt s y) r (piece .next) =
+          next .is ∙ ap (λ (b : Bool). cond b (piece .row ∷ []) [] ++ piecesFrom (s .taking) (partAt s y) r (piece .next)) e in
           record {
             done = l .done;
             front = l .front;
-            held = held-self h;
-            within = omega arith;
+            can = λ h. l .can lt;
+            within = next .upto;
             low = l .low;
             high = l .high;
-            far = omega arith;
-            joins = rw (held-list h, lt-leb (i + 1) (t .count) (omega arith), append-nil)
-                (rw (le-leb i (t .count) (omega arith), drop-of-length-le (rowsOf t) past, stepped-nil) at spent);
+            far = l .far;
+            joins = ap (λ (p : List Row). l .done ++ (p ++ stepped s x (drop i (rowsOf t)))) (sym same) ∙ l .joins;
           }
 
-      pub laid-all : t .count < i → Front (t .rows) rows n (stepped s (s .part .from) (rowsOf t))
-      unfolding rest
-      laid-all past = front-as (l .front) (rw (lt-leb i (t .count) past, append-nil) at spent)
+      pub piece-over : piece .some ≡ true → 128 ≤ n → 128 < length (stepped s (s .part .from) (rowsOf t))
+      piece-over e full = rw (← (l .joins), some e, length-append) (omega (arith, l .front .counts))
+
+    -- no piece is left
+    module _ (none : 4 ≤ j) where
+      spent : l .done ++ stepped s x (drop i (rowsOf t)) ≡ stepped s (s .part .from) (rowsOf t)
+      spent =
+          let last : j ≡ 4 = omega (arith, l .within) in
+          ap (λ (k : ℕ). l .done ++ (piecesFrom (s .taking) (partAt s y) r k ++ stepped s x (drop i (rowsOf t)))) (sym last) ∙ l .joins
+
+      -- behind the last row
+      module _ (all : t .count ≤ i) where
+        closing : l .done ++ madeLast s x ≡ stepped s (s .part .from) (rowsOf t)
+        closing =
+            let past : length (rowsOf t) ≤ i = omega (arith, can .arranged .clean .counts) in
+            rw (drop-of-length-le (rowsOf t) past, stepped-nil) at spent
+
+        pub last-none : (last : Piece) → Cuts last 4 (madeLast s x) → last .some ≡ false → Front (t .rows) rows n (stepped s (s .part .from) (rowsOf t))
+        last-none last c e = front-as (l .front) (sym (append-nil _) ∙ ap (λ (p : List Row). l .done ++ p) (sym (no-piece last c e)) ∙ closing)
+
+        one : (last : Piece) → Cuts last 4 (madeLast s x) → last .some ≡ true → l .done ++ last .row ∷ [] ≡ stepped s (s .part .from) (rowsOf t)
+        one last c e = ap (λ (p : List Row). l .done ++ p) (ap (λ (b : Bool). cond b (last .row ∷ []) []) (sym e) ∙ c .0) ∙ closing
+
+        pub last-some : (last : Piece) → Cuts last 4 (madeLast s x) → last .some ≡ true → n < 128 → Front (t .rows) (set rows n (last .row)) (n + 1) (stepped s (s .part .from) (rowsOf t))
+        last-some last c e room = front-as (front-store (l .front) room (last .row)) (one last c e)
+
+        pub last-over : (last : Piece) → Cuts last 4 (madeLast s x) → last .some ≡ true → 128 ≤ n → 128 < length (stepped s (s .part .from) (rowsOf t))
+        last-over last c e full = rw (← (one last c e), length-append) (omega (arith, l .front .counts))
 
       module _ (lt : i < t .count) where
-        pub laid-cut : (q : Pieces) → heldPieces q (made s x (rowAt (t .rows) i)) → Laid s t rows n (pastRow (startedAt (s .part) x) (rowAt (t .rows) i)) (i + 1) q 0
-        laid-cut q h =
+        pub laid-cut : Laid s t rows n (pastRow (startedAt (s .part) x) (rowAt (t .rows) i)) (i + 1) (rowAt (t .rows) i) x 0
+        laid-cut =
             record {
               done = l .done;
               front = l .front;
-              held = held-self h;
+              can = λ h. row-changeable i lt x (l .low);
               within = omega arith;
               low = omega (arith, l .low);
               high = omega (arith, l .high);
               far = omega arith;
-              joins = rw (held-list h, rest-next i lt) (rw (rest-here i lt, stepped-cons) at spent);
+              joins = rw (next-here i lt, stepped-cons) at spent;
             }
 
         module _ (still : Stays s t x i) where
-          onward : (l .done ++ rowAt (t .rows) i ∷ []) ++ rest s x t (i + 1) ≡ stepped s (s .part .from) (rowsOf t)
+          onward : (l .done ++ rowAt (t .rows) i ∷ []) ++ stepped s x (drop (i + 1) (rowsOf t)) ≡ stepped s (s .part .from) (rowsOf t)
           unfolding Stays
-          onward =
-              rw (append-snoc, rest-next i lt)
-              (rw (rest-here i lt, still) at spent)
+          onward = rw append-snoc (rw (next-here i lt, still) at spent)
 
-          behind : {rows' : List Row} → Front (t .rows) rows' (n + 1) (l .done ++ rowAt (t .rows) i ∷ []) → Laid s t rows' (n + 1) x (i + 1) p j
+          behind : {rows' : List Row} → Front (t .rows) rows' (n + 1) (l .done ++ rowAt (t .rows) i ∷ []) → Laid s t rows' (n + 1) x (i + 1) r y j
           behind f =
-              let past : length (piecesIn p) ≤ j = omega (arith, l .held .counts) in
+              let last : j ≡ 4 = omega (arith, l .within) in
               record {
                 done = l .done ++ rowAt (t .rows) i ∷ [];
                 front = f;
-                held = l .held;
+                can = l .can;
                 within = l .within;
                 low = l .low;
                 high = l .high;
                 far = omega arith;
-                joins = rw (drop-of-length-le (piecesIn p) past) onward;
+                joins = ap (λ (k : ℕ). (l .done ++ rowAt (t .rows) i ∷ []) ++ (piecesFrom (s .taking) (partAt s y) r k ++ stepped s x (drop (i + 1) (rowsOf t)))) last ∙ onward;
               }
 
-          pub laid-moves : n < 128 → Laid s t (set rows n (rowAt (t .rows) i)) (n + 1) x (i + 1) p j
+          pub laid-moves : n < 128 → Laid s t (set rows n (rowAt (t .rows) i)) (n + 1) x (i + 1) r y j
           laid-moves room = behind (front-store (l .front) room (rowAt (t .rows) i))
 
-          laid-stays : n ≡ i → Laid s t rows (n + 1) x (i + 1) p j
+          laid-stays : n ≡ i → Laid s t rows (n + 1) x (i + 1) r y j
           laid-stays e = behind (front-as (front-skip (l .front) (omega (arith, can .arranged .clean .fits))) (ap (λ (k : ℕ). l .done ++ rowAt (t .rows) k ∷ []) e))
 
           pub moves-over : 128 ≤ n → 128 < length (stepped s (s .part .from) (rowsOf t))
@@ -286,8 +293,8 @@ module _ (s : Step) (t : Table) (can : CanStep s t) where
     later-end = later (λ r. r .end) (λ behind. omega (arith, behind, row-lies s t can k lt))
 
   -- rows that stay, one after another
-  go-on : (m : ℕ) {rows : List Row} {n x i j : ℕ} {p : Pieces} → Laid s t rows n x i p j → p .count ≤ j → n ≡ i → i + m ≤ t .count
-      → ((k : ℕ) → i ≤ k → k < i + m → Stays s t x k) → Laid s t rows (i + m) x (i + m) p j
+  go-on : (m : ℕ) {rows : List Row} {n x i y j : ℕ} {r : Row} → Laid s t rows n x i r y j → 4 ≤ j → n ≡ i → i + m ≤ t .count
+      → ((k : ℕ) → i ≤ k → k < i + m → Stays s t x k) → Laid s t rows (i + m) x (i + m) r y j
   go-on zero {i = i} l none e le all =
       let same : i + 0 ≡ i = omega arith in
       rw same (rw e at l)
@@ -296,35 +303,51 @@ module _ (s : Step) (t : Table) (can : CanStep s t) where
       rw same (go-on m (laid-stays s t can l none (omega arith) (all i (omega arith) (omega arith)) e) none (omega arith) (omega arith) (λ k low high. all k (omega arith) (omega arith)))
 
   -- those that end before the part, at the start
-  pub laid-from : (first : ℕ) (none : Pieces) → heldPieces none [] → first ≤ t .count → ((k : ℕ) → k < first → rowAt (t .rows) k .end < s .part .from)
-      → Laid s t (t .rows) first (s .part .from) first none 0
+  pub laid-from : (first : ℕ) (r : Row) (y : ℕ) → first ≤ t .count → ((k : ℕ) → k < first → rowAt (t .rows) k .end < s .part .from)
+      → Laid s t (t .rows) first (s .part .from) first r y 4
   unfolding Stays
-  laid-from first none h le early =
+  laid-from first r y le early =
       let same : 0 + first ≡ first = omega arith in
       rw same at
-      (go-on first (laid-start s t can none h) (omega (arith, h .counts)) refl (omega arith)
+      (go-on first (laid-start s t can r y) (omega arith) refl (omega arith)
       (λ k low lt. stepped-early s (s .part .from) (rowAt (t .rows) k) (drop (k + 1) (rowsOf t)) (can .some) (omega arith) (omega (arith, can .some)) (row-lies s t can k (omega arith) .0) (early k (omega arith))))
 
-  -- a row that the part does not touch
-  pub row-stays : {rows : List Row} {n x i j : ℕ} {p : Pieces} → Laid s t rows n x i p j → i < t .count → s .part .from ≤ rowAt (t .rows) i .end
-      → untouched s x (rowAt (t .rows) i) ≡ true → Stays s t x i
+  -- a row that the part does not touch stays, and so do all rows behind it
+  pub all-stay : {rows : List Row} {n x i y j : ℕ} {r : Row} → Laid s t rows n x i r y j → i < t .count → s .part .from ≤ rowAt (t .rows) i .end
+      → untouched s x (rowAt (t .rows) i) ≡ true → (k : ℕ) → i ≤ k → k < t .count → Stays s t x k
   unfolding Stays
-  row-stays {x = x} {i = i} l lt ge e =
-      stepped-untouched s x (rowAt (t .rows) i) (drop (i + 1) (rowsOf t)) (can .some) (l .low) (l .high) (row-lies s t can i lt .0) ge e
-
-  -- and all rows behind it
-  pub laid-rests : {rows : List Row} {n x i j : ℕ} {p : Pieces} → Laid s t rows n x i p j → p .count ≤ j → i < t .count → s .part .from ≤ rowAt (t .rows) i .end
-      → untouched s x (rowAt (t .rows) i) ≡ true → n ≡ i → Laid s t rows (t .count) x (t .count) p j
-  unfolding Stays
-  laid-rests {x = x} {i = i} l none lt ge e same =
-      let whole : i + (t .count - i) ≡ t .count = omega arith in
+  all-stay {x = x} {i = i} l lt ge e k low here =
       let apart = both (not (overlaps (s .part .from) (s .part .until) (rowAt (t .rows) i .start) (rowAt (t .rows) i .end))) _ e in
       let late = starts-behind s (rowAt (t .rows) i) ge (apart .0) in
-      rw whole at
-      (go-on (t .count - i) l none same (omega arith)
-      (λ k low high.
-      let here : k < t .count = omega arith in
       let start : s .part .until ≤ rowAt (t .rows) k .start = omega (arith, late, later-start i k low here) in
       let end : s .part .from ≤ rowAt (t .rows) k .end = omega (arith, ge, later-end i k low here) in
       stepped-untouched s x (rowAt (t .rows) k) (drop (k + 1) (rowsOf t)) (can .some) (l .low) (l .high) (row-lies s t can k here .0) end
-      (rw (le-ltb (rowAt (t .rows) k .start) (s .part .until) start) (apart .1))))
+      (rw (le-ltb (rowAt (t .rows) k .start) (s .part .until) start) (apart .1))
+
+  pub laid-rests : {rows : List Row} {n x i y j : ℕ} {r : Row} → Laid s t rows n x i r y j → 4 ≤ j → i < t .count → ((k : ℕ) → i ≤ k → k < t .count → Stays s t x k) → n ≡ i
+      → Laid s t rows (t .count) x (t .count) r y j
+  laid-rests {i = i} l none lt still same =
+      let whole : i + (t .count - i) ≡ t .count = omega arith in
+      rw whole at (go-on (t .count - i) l none same (omega arith) (λ k low high. still k low (omega arith)))
+
+-- a step that moves all rows that are left, read from the rows or from the copy
+pub record Moves (s : Step) (t : Table) (copy rows : List Row) (n x i : ℕ) (r : Row) (y j : ℕ) : Type 0 where
+  pub can : CanStep s t
+  pub laid : Laid s t rows n x i r y j
+  pub none : 4 ≤ j
+  pub stay : (k : ℕ) → i ≤ k → k < t .count → Stays s t x k
+  pub kept : Kept (t .rows) copy n i
+
+module _ {s : Step} {t : Table} {copy rows : List Row} {n x i y j : ℕ} {r : Row} (m : Moves s t copy rows n x i r y j) where
+  pub moves-on : i < t .count → n < 128 → (q : Row) → q ≡ rowAt (t .rows) i → Moves s t copy (set rows n q) (n + 1) x (i + 1) r y j
+  moves-on lt room q e =
+      record {
+        can = m .can;
+        laid = rw e (laid-moves s t (m .can) (m .laid) (m .none) lt (m .stay i (omega arith) lt) room);
+        none = m .none;
+        stay = λ k low high. m .stay k (omega arith) high;
+        kept = kept-moves (m .kept);
+      }
+
+  pub row-over : i < t .count → 128 ≤ n → 128 < length (stepped s (s .part .from) (rowsOf t))
+  row-over lt full = moves-over s t (m .can) (m .laid) (m .none) lt (m .stay i (omega arith) lt) full

@@ -28,6 +28,7 @@ pub mod AdjustedRight
 pub mod Demanded
 pub mod Overloaded
 pub mod Meets
+pub mod Piecewise
 pub mod Front
 pub mod Laying
 pub mod Edits

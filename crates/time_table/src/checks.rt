@@ -1,14 +1,16 @@
-// The pieces that an insertion makes of a row (the Rust's checks.rs). What of the part lies before
-// the row is laid with it, so the piece before the first row and those between two are one check.
+// The pieces that an insertion makes of a row (the Rust's checks.rs and insertion.rs). What of the part
+// lies before the row is its first piece, so the piece before the first row and those between two are
+// one check. Where no row overlaps the part, the Rust's insert_profile_new_mandatory_part, that piece is
+// all.
 ghost use mathlib.Core.Path.{_≡_};
 ghost use Prim.Native.Nat.{_+_, _<_, _^_};
 ghost use Rattle.time_table.specs.Rows.{Listed};
-ghost use Rattle.time_table.specs.Pieces.{Adds, beforePart, afterPart};
+ghost use Rattle.time_table.specs.Pieces.{Cuts, beforePart, afterPart};
 ghost use Rattle.time_table.specs.Insertion.{alone, joined, gapBefore, heightened, Insertable};
 use crate::Part;
 use crate::Row;
 use crate::pieces;
-use crate::pieces::Pieces;
+use crate::pieces::Piece;
 
 // A row of the part's task alone, of no instants yet.
 pub(crate) fn new_profile(part: Part) -> Row
@@ -40,58 +42,52 @@ pub(crate) fn add_task_to_profile(profile: Row, part: Part) -> Row
 }
 
 // The uncovered piece before the row: before the first, or in the gap between two.
-pub(crate) fn new_profile_before_profile(part: Part, profile: Row, laid: Pieces) -> Pieces
-    requires { ⌜ laid .count < 4 ⌝ }
-    ensures { λ r. ⌜ Adds laid r (gapBefore part profile) ⌝ }
+pub(crate) fn new_profile_before_profile(part: Part, profile: Row) -> Piece
+    ensures { λ r. ⌜ Cuts r 1 (gapBefore part profile) ⌝ }
 {
-    laid.put(
+    Piece::cut(
         new_profile(part),
         part.from,
         pieces::least(part.until, profile.start),
+        1,
     )
 }
 
 // The untouched left piece of the row.
-pub(crate) fn split_profile_added_part_starts_after_profile_start(
-    part: Part,
-    profile: Row,
-    laid: Pieces,
-) -> Pieces
-    requires { ⌜ (laid .count < 4) × (profile .end + 1 < 2 ^ 32) ⌝ }
-    ensures { λ r. ⌜ Adds laid r (beforePart part profile) ⌝ }
+pub(crate) fn split_profile_added_part_starts_after_profile_start(part: Part, profile: Row) -> Piece
+    requires { ⌜ profile .end + 1 < 2 ^ 32 ⌝ }
+    ensures { λ r. ⌜ Cuts r 2 (beforePart part profile) ⌝ }
 {
-    laid.put(
+    Piece::cut(
         profile,
         profile.start,
         pieces::least(part.from, profile.end + 1),
+        2,
     )
 }
 
 // The covered piece of the row, with the task.
-pub(crate) fn overlap_updated_profile(part: Part, profile: Row, laid: Pieces) -> Pieces
-    requires { ⌜ (Insertable part profile) × (laid .count < 4) ⌝ }
-    ensures { λ r. ⌜ Adds laid r (heightened part profile) ⌝ }
+pub(crate) fn overlap_updated_profile(part: Part, profile: Row) -> Piece
+    requires { ⌜ Insertable part profile ⌝ }
+    ensures { λ r. ⌜ Cuts r 3 (heightened part profile) ⌝ }
 {
     let lower = pieces::greatest(part.from, profile.start);
     let upper = pieces::least(part.until, profile.end + 1);
     if upper <= lower {
-        return laid;
+        return Piece::none(3);
     }
-    laid.put(add_task_to_profile(profile, part), lower, upper)
+    Piece::cut(add_task_to_profile(profile, part), lower, upper, 3)
 }
 
 // The untouched right piece of the row.
-pub(crate) fn split_profile_added_part_ends_before_profile_end(
-    part: Part,
-    profile: Row,
-    laid: Pieces,
-) -> Pieces
-    requires { ⌜ (laid .count < 4) × (profile .end + 1 < 2 ^ 32) ⌝ }
-    ensures { λ r. ⌜ Adds laid r (afterPart part profile) ⌝ }
+pub(crate) fn split_profile_added_part_ends_before_profile_end(part: Part, profile: Row) -> Piece
+    requires { ⌜ profile .end + 1 < 2 ^ 32 ⌝ }
+    ensures { λ r. ⌜ Cuts r 4 (afterPart part profile) ⌝ }
 {
-    laid.put(
+    Piece::cut(
         profile,
         pieces::greatest(part.until, profile.start),
         profile.end + 1,
+        4,
     )
 }

@@ -4,7 +4,6 @@
 // A port of Pumpkin's over-interval time-table; the modules have the names of the files that they
 // follow. Instants are ticks, so that no number can stand for "none" (docs/DECISIONS.md).
 pub mod checks;
-pub mod insertion;
 pub mod mandatory_part_adjustments;
 mod part_by_part;
 mod pieces;

@@ -1,17 +1,16 @@
 // One step of an update, row by row: what a part that is taken out or put in makes of a row.
 ghost use mathlib.Core.Path.{_≡_};
 ghost use Prim.Native.Nat.{_+_, _<_, _≤_, _^_};
-ghost use Rattle.time_table.specs.Pieces.{heldPieces};
+ghost use Rattle.time_table.specs.Pieces.{Cuts};
 ghost use Rattle.time_table.specs.Insertion.{startedAt, pastRow};
-ghost use Rattle.time_table.specs.Stepping.{stepAt, untouched, made, madeLast, Changeable};
+ghost use Rattle.time_table.specs.Stepping.{stepAt, partAt, untouched, coveredIn, NextPiece, madeLast, Changeable};
 use crate::Part;
 use crate::Row;
 use crate::checks;
-use crate::insertion::raised_profile;
 use crate::mandatory_part_adjustments::MandatoryPartAdjustments;
 use crate::pieces;
-use crate::pieces::Pieces;
-use crate::removal::reduced_profile;
+use crate::pieces::Piece;
+use crate::removal;
 use crate::time_table_util::has_overlap_with_interval;
 
 // A part, and whether it is taken out of the table or put into it.
@@ -54,36 +53,70 @@ pub(crate) fn is_untouched(step: Step, from: u32, profile: Row) -> bool
     part.until <= from
 }
 
-// What a step that has come to the instant `from` makes of a row.
-pub(crate) fn changed_profile(step: Step, from: u32, profile: Row) -> Pieces
-    requires { ⌜ Changeable step from profile ⌝ }
-    ensures { λ r. ⌜ heldPieces r (made step from profile) ⌝ }
+// The part of a step that has come to the instant `from`: what is put in starts there.
+pub(crate) fn part_at(step: Step, from: u32) -> Part
+    ensures { λ r. ⌜ r ≡ partAt step from ⌝ }
 {
     let part = step.part;
     if step.taking {
-        return reduced_profile(part, profile);
+        return part;
     }
-    raised_profile(
-        Part {
-            from,
-            until: part.until,
-            id: part.id,
-            usage: part.usage,
-        },
-        profile,
-    )
+    Part {
+        from,
+        until: part.until,
+        id: part.id,
+        usage: part.usage,
+    }
+}
+
+// The covered piece of a row, without the task or with it.
+pub(crate) fn covered_piece(taking: bool, part: Part, profile: Row) -> Piece
+    requires { ⌜ Changeable taking part profile ⌝ }
+    ensures { λ r. ⌜ Cuts r 3 (coveredIn taking part profile) ⌝ }
+{
+    if taking {
+        return removal::overlap_updated_profile(part, profile);
+    }
+    checks::overlap_updated_profile(part, profile)
+}
+
+// The next piece from the number j on of those that a part makes of a row.
+pub(crate) fn next_piece(taking: bool, part: Part, profile: Row, j: usize) -> Piece
+    requires { ⌜ Changeable taking part profile × (j < 4) ⌝ }
+    ensures { λ r. ⌜ NextPiece taking part profile j r ⌝ }
+{
+    if j == 0 {
+        if !taking {
+            let gap = checks::new_profile_before_profile(part, profile);
+            if gap.some {
+                return gap;
+            }
+        }
+    }
+    if j <= 1 {
+        let left = checks::split_profile_added_part_starts_after_profile_start(part, profile);
+        if left.some {
+            return left;
+        }
+    }
+    if j <= 2 {
+        let covered = covered_piece(taking, part, profile);
+        if covered.some {
+            return covered;
+        }
+    }
+    checks::split_profile_added_part_ends_before_profile_end(part, profile)
 }
 
 // What a step that has come to the instant `from` lays behind the last row.
-pub(crate) fn last_profile(step: Step, from: u32) -> Pieces
-    ensures { λ r. ⌜ heldPieces r (madeLast step from) ⌝ }
+pub(crate) fn last_profile(step: Step, from: u32) -> Piece
+    ensures { λ r. ⌜ Cuts r 4 (madeLast step from) ⌝ }
 {
-    let none = Pieces::none();
     if step.taking {
-        return none;
+        return Piece::none(4);
     }
     let part = step.part;
-    none.put(checks::new_profile(part), from, part.until)
+    Piece::cut(checks::new_profile(part), from, part.until, 4)
 }
 
 // The instant to which a part has come behind a row.

@@ -1,45 +1,48 @@
-// What one row becomes where a part goes through it: four pieces at most.
+// What one row falls into where a part goes through it: four pieces at most, numbered from 0.
 ghost use mathlib.Core.Path.{_≡_};
 ghost use mathlib.Core.List.{[]};
-ghost use Prim.Native.Nat.{_<_, min, max};
+ghost use Prim.Native.Nat.{min, max};
 ghost use Rattle.time_table.specs.Rows.{cut};
-ghost use Rattle.time_table.specs.Pieces.{heldPieces, Adds};
+ghost use Rattle.time_table.specs.Pieces.{Cuts};
 use crate::Row;
 
-// The pieces of a row, in `rows` up to `count`. From there on they are the empty row.
-pub struct Pieces {
-    pub rows: [Row; 4],
-    pub count: usize,
+// A piece of a row, if there is one, else the empty row; and the number of the piece to look for next.
+pub struct Piece {
+    pub row: Row,
+    pub next: usize,
+    pub some: bool,
 }
 
-impl Pieces {
-    // No pieces.
-    pub(crate) fn none() -> Pieces
-        ensures { λ r. ⌜ heldPieces r [] ⌝ }
+impl Piece {
+    // How many pieces a row falls into at most.
+    pub const ALL: usize = 4;
+
+    // No piece.
+    pub(crate) fn none(next: usize) -> Piece
+        ensures { λ r. ⌜ Cuts r next [] ⌝ }
     {
-        let empty = Row::empty();
-        Pieces {
-            rows: [empty; 4],
-            count: 0,
+        Piece {
+            row: Row::empty(),
+            next,
+            some: false,
         }
     }
 
-    // One more piece: a row cut to the instants from x up to but without y, if there are any.
-    pub(crate) fn put(self, row: Row, x: u32, y: u32) -> Pieces
-        requires { ⌜ self .count < 4 ⌝ }
-        ensures { λ r. ⌜ Adds self r (cut row x y) ⌝ }
+    // A row cut to the instants from x up to but without y, if there are any.
+    pub(crate) fn cut(row: Row, x: u32, y: u32, next: usize) -> Piece
+        ensures { λ r. ⌜ Cuts r next (cut row x y) ⌝ }
     {
         if y <= x {
-            return self;
+            return Piece::none(next);
         }
         let mut piece = row;
         piece.start = x;
         piece.end = y - 1;
-        let mut pieces = self;
-        let at = pieces.count;
-        pieces.rows[at] = piece;
-        pieces.count = at + 1;
-        pieces
+        Piece {
+            row: piece,
+            next,
+            some: true,
+        }
     }
 }
 

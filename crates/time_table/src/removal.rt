@@ -1,15 +1,14 @@
 // A part taken out of the rows that list its task (the Rust's removal.rs). The Rust's
 // split_first_profile and split_last_profile are the two splits of checks.rt.
 ghost use mathlib.Core.Path.{_≡_};
-ghost use Prim.Native.Nat.{_+_, _≤_, _<_};
+ghost use Prim.Native.Nat.{_≤_, _<_};
 ghost use Rattle.time_table.specs.Rows.{tasks, Listed};
-ghost use Rattle.time_table.specs.Pieces.{Adds, heldPieces};
-ghost use Rattle.time_table.specs.Removal.{position, without, lessened, reduced, Removable};
+ghost use Rattle.time_table.specs.Pieces.{Cuts};
+ghost use Rattle.time_table.specs.Removal.{position, without, lessened, Removable};
 use crate::Part;
 use crate::Row;
-use crate::checks;
 use crate::pieces;
-use crate::pieces::Pieces;
+use crate::pieces::Piece;
 
 // The place of a task in a row's list; the list's length if it has none.
 pub(crate) fn position(profile: Row, id: u8) -> usize
@@ -47,31 +46,17 @@ pub(crate) fn remove_task_from_profile(profile: Row, part: Part) -> Row
 }
 
 // The covered piece of the row, without the task; none where no height is left.
-pub(crate) fn overlap_updated_profile(part: Part, profile: Row, laid: Pieces) -> Pieces
-    requires { ⌜ (Removable part profile) × (laid .count < 4) ⌝ }
-    ensures { λ r. ⌜ Adds laid r (lessened part profile) ⌝ }
+pub(crate) fn overlap_updated_profile(part: Part, profile: Row) -> Piece
+    requires { ⌜ Removable part profile ⌝ }
+    ensures { λ r. ⌜ Cuts r 3 (lessened part profile) ⌝ }
 {
     if profile.height == part.usage {
-        return laid;
+        return Piece::none(3);
     }
     let lower = pieces::greatest(part.from, profile.start);
     let upper = pieces::least(part.until, profile.end + 1);
     if upper <= lower {
-        return laid;
+        return Piece::none(3);
     }
-    laid.put(remove_task_from_profile(profile, part), lower, upper)
-}
-
-// What a row becomes where the part is taken out.
-pub(crate) fn reduced_profile(part: Part, profile: Row) -> Pieces
-    requires { ⌜ Removable part profile ⌝ }
-    ensures { λ r. ⌜ heldPieces r (reduced part profile) ⌝ }
-{
-    let left = checks::split_profile_added_part_starts_after_profile_start(
-        part,
-        profile,
-        Pieces::none(),
-    );
-    let covered = overlap_updated_profile(part, profile, left);
-    checks::split_profile_added_part_ends_before_profile_end(part, profile, covered)
+    Piece::cut(remove_task_from_profile(profile, part), lower, upper, 3)
 }

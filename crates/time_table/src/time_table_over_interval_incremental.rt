@@ -1,9 +1,7 @@
 // The parts of an update applied one by one, and the first row that is too high
 // (the Rust's time_table_over_interval_incremental.rs).
 ghost use mathlib.Core.Path.{_≡_};
-ghost use Rattle.time_table.specs.Rows.{rowsOf, Clean};
 ghost use Rattle.time_table.specs.Update.{updated, Updatable};
-ghost use Rattle.time_table.specs.Overload.{conflictIn};
 use crate::Conflict;
 use crate::Edited;
 use crate::Part;
@@ -11,7 +9,7 @@ use crate::Row;
 use crate::Table;
 use crate::mandatory_part_adjustments::get_mandatory_part_adjustments;
 use crate::part_by_part;
-use crate::pieces::Pieces;
+use crate::pieces::Piece;
 
 // The table of a task's old mandatory part turned into that of its new one, or over, and its first row
 // that is too high: first what is removed is done, then what is added. Each part finds the first row
@@ -34,8 +32,9 @@ pub fn update_time_table(table: Table, old: Part, new: Part, capacity: u32) -> E
     'parts: while k < steps {
         let step = part_by_part::step_at(adjustments, k);
         let mut from = step.part.from;
-        let mut laid = Pieces::none();
-        let mut j = 0;
+        let mut row = empty;
+        let mut came = from;
+        let mut j = Piece::ALL;
         let mut low = 0;
         let mut high = count;
         while low < high {
@@ -49,49 +48,68 @@ pub fn update_time_table(table: Table, old: Part, new: Part, capacity: u32) -> E
         }
         let mut i = low;
         let mut n = low;
-        while i <= count || j < laid.count {
-            if j < laid.count {
-                // a piece of the row before is still to be written
-                if n == Table::ROWS {
-                    over = true;
-                    break 'parts;
+        while i < count || j < Piece::ALL {
+            if j < Piece::ALL {
+                // a piece of the row before may be still to be written
+                let part = part_by_part::part_at(step, came);
+                let piece = part_by_part::next_piece(step.taking, part, row, j);
+                j = piece.next;
+                if piece.some {
+                    if n == Table::ROWS {
+                        over = true;
+                        break 'parts;
+                    }
+                    if n == i {
+                        source = rows;
+                    }
+                    let laid = piece.row;
+                    rows[n] = laid;
+                    n += 1;
                 }
-                if n == i {
-                    source = rows;
-                }
-                rows[n] = laid.rows[j];
-                n += 1;
-                j += 1;
-            } else if i == count {
-                // what of the part lies behind the last row
-                laid = part_by_part::last_profile(step, from);
-                j = 0;
-                i += 1;
             } else {
-                let mut row = rows[i];
+                let mut next = rows[i];
                 if i < n {
-                    row = source[i];
+                    next = source[i];
                 }
-                // a row that the part changes; else one that stays in its place, and so do all behind
-                // it; else one that moves
-                if !part_by_part::is_untouched(step, from, row) {
-                    laid = part_by_part::changed_profile(step, from, row);
+                // a row that the part changes; else it stays in its place, or moves, and so do all behind it
+                if !part_by_part::is_untouched(step, from, next) {
+                    row = next;
+                    came = from;
                     j = 0;
-                    from = part_by_part::instant_behind(step.part, from, row);
+                    from = part_by_part::instant_behind(step.part, from, next);
                     i += 1;
                 } else if n == i {
                     n = count;
                     i = count;
                 } else {
-                    if n == Table::ROWS {
-                        over = true;
-                        break 'parts;
+                    while i < count {
+                        if n == Table::ROWS {
+                            over = true;
+                            break 'parts;
+                        }
+                        if i < n {
+                            let moved = source[i];
+                            rows[n] = moved;
+                        } else {
+                            let moved = rows[i];
+                            rows[n] = moved;
+                        }
+                        n += 1;
+                        i += 1;
                     }
-                    rows[n] = row;
-                    n += 1;
-                    i += 1;
                 }
             }
+        }
+        // what of the part lies behind the last row
+        let last = part_by_part::last_profile(step, from);
+        if last.some {
+            if n == Table::ROWS {
+                over = true;
+                break 'parts;
+            }
+            let laid = last.row;
+            rows[n] = laid;
+            n += 1;
         }
         let mut at = n;
         while at < count {

@@ -9,10 +9,8 @@ use Rattle.time_table.specs.Overload.{conflictIn}
 use Rattle.time_table.specs.Update.{updated}
 use Rattle.sweep.specs.declared.Tasks.{Tasks}
 use Rattle.sweep.specs.Tasks.{noTask, tasksOf, taskAt, partOf}
-use Rattle.planner.specs.declared.RowRecord.{RowRecord}
 use Rattle.planner.specs.declared.Answer.{Answer}
 use Rattle.planner.specs.declared.Refusal.the-variants.{TooManyRows}
-use Rattle.planner.specs.declared.Updated.{Updated}
 use Rattle.planner.specs.Sound.{SoundTasks, Live, Sound}
 use Rattle.planner.specs.Answers.{livePlan}
 use Rattle.planner.specs.Updates.{bounded, acceptedUpdate}

@@ -1,4 +1,4 @@
--- `new_profile_before_profile` meets its contract: it puts the task alone, cut at the lesser end.
+-- `new_profile_before_profile` meets its contract: it is the task alone, cut at the lesser end.
 -- Assumes nothing.
 use borrow.Author.Needs.{needs}
 use Rattle.time_table.proofs.checks.new_profile_before_profile.Statement.{statement}
@@ -10,12 +10,12 @@ new-profile-requires c κs = search needs
 least-requires : tie.Need-least-requires
 least-requires c κs = search needs
 
-put-requires : tie.Need-put-requires
-put-requires c κs = search needs
+cut-requires : tie.Need-cut-requires
+cut-requires c κs = search needs
 
 returns : tie.Need-returns
-returns c = rw (← (c .before .least .ensures), ← (c .before .before .new-profile .ensures)) (c .put .ensures)
+returns c = rw (← (c .before .least .ensures), ← (c .before .before .new-profile .ensures)) (c .cut .ensures)
 
 pub new-profile-before-profile-spec : {M : Type 1} → statement M
 new-profile-before-profile-spec =
-    tie.close (tie.spec new-profile-requires least-requires put-requires returns)
+    tie.close (tie.spec new-profile-requires least-requires cut-requires returns)

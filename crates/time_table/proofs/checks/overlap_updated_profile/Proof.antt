@@ -1,6 +1,6 @@
--- `overlap_updated_profile` meets its contract: it puts the row with the task, cut to what the part covers, if it covers something.
+-- `overlap_updated_profile` meets its contract: it is the row with the task, cut to what the part covers, if it covers something.
 -- Assumes nothing.
-use mathlib.Core.List.{append-nil}
+use mathlib.Core.Path.{sym, _∙_}
 use Rattle.time_table.proofs.Heightened.{heightened-apart}
 use borrow.Author.Needs.{needs}
 use native.Mathlib.Omega.{arith}
@@ -16,32 +16,26 @@ add-least c = search needs
 least-requires : tie.Need-least-requires
 least-requires c κs = search needs
 
+none-requires : tie.Need-none-requires
+none-requires c κs = search needs
+
 returns : tie.Need-returns
 returns c =
-    let a = c .before .before .before .before .args in
-    (omega arith, λ l h. rw (heightened-apart (a .part) (a .profile) (omega arith), append-nil) h)
+    let a = c .before .before .before .before .before .args in
+    (c .none .ensures .0 ∙ sym (heightened-apart (a .part) (a .profile) (omega arith)), c .none .ensures .1)
 
 add-task-to-profile-requires : tie.Need-add-task-to-profile-requires
 add-task-to-profile-requires c κs =
-    let can = c .before .before .before .before .pre .0 in
+    let can = c .before .before .before .before .pre in
     (can .listed, can .there (omega arith))
 
-put-requires : tie.Need-put-requires
-put-requires c κs = search needs
+cut-requires : tie.Need-cut-requires
+cut-requires c κs = search needs
 
 returns-2 : tie.Need-returns-2
 returns-2 c =
-    let b = c .before .before .before in
-    rw (← (b .before .before .greatest .ensures), ← (b .least .ensures), ← (c .before .add-task-to-profile .ensures)) (c .put .ensures)
+    rw (← (c .before .before .before .before .before .greatest .ensures), ← (c .before .before .before .least .ensures), ← (c .before .add-task-to-profile .ensures)) (c .cut .ensures)
 
 pub overlap-updated-profile-spec : {M : Type 1} → statement M
 overlap-updated-profile-spec =
-    tie.close
-    (tie.spec
-    greatest-requires
-    add-least
-    least-requires
-    returns
-    add-task-to-profile-requires
-    put-requires
-    returns-2)
+    tie.close (tie.spec greatest-requires add-least least-requires none-requires returns add-task-to-profile-requires cut-requires returns-2)

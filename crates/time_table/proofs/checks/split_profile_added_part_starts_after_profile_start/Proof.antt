@@ -1,4 +1,4 @@
--- `split_profile_added_part_starts_after_profile_start` meets its contract: it puts the row cut at the lesser end.
+-- `split_profile_added_part_starts_after_profile_start` meets its contract: it is the row cut at the lesser end.
 -- Assumes nothing.
 use borrow.Author.Needs.{needs}
 use Rattle.time_table.proofs.checks.split_profile_added_part_starts_after_profile_start.Statement.{statement}
@@ -10,12 +10,12 @@ add-least c = search needs
 least-requires : tie.Need-least-requires
 least-requires c κs = search needs
 
-put-requires : tie.Need-put-requires
-put-requires c κs = search needs
+cut-requires : tie.Need-cut-requires
+cut-requires c κs = search needs
 
 returns : tie.Need-returns
-returns c = rw (← (c .before .least .ensures)) (c .put .ensures)
+returns c = rw (← (c .before .least .ensures)) (c .cut .ensures)
 
 pub split-profile-added-part-starts-after-profile-start-spec : {M : Type 1} → statement M
 split-profile-added-part-starts-after-profile-start-spec =
-    tie.close (tie.spec add-least least-requires put-requires returns)
+    tie.close (tie.spec add-least least-requires cut-requires returns)

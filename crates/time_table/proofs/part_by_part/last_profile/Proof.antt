@@ -8,17 +8,17 @@ none-requires : tie.Need-none-requires
 none-requires c κs = search needs
 
 returns : tie.Need-returns
-returns c = rw (c .if1 .taken) (c .before .none .ensures)
+returns c = rw (c .before .if1 .taken) (c .none .ensures)
 
 new-profile-requires : tie.Need-new-profile-requires
 new-profile-requires c κs = search needs
 
-put-requires : tie.Need-put-requires
-put-requires c κs = search needs
+cut-requires : tie.Need-cut-requires
+cut-requires c κs = search needs
 
 returns-2 : tie.Need-returns-2
-returns-2 c = rw (c .before .before .before .if1 .left, ← (c .before .new-profile .ensures)) (c .put .ensures .1 _ (c .before .before .before .before .none .ensures))
+returns-2 c = rw (c .before .before .before .if1 .left, ← (c .before .new-profile .ensures)) (c .cut .ensures)
 
 pub last-profile-spec : {M : Type 1} → statement M
 last-profile-spec =
-    tie.close (tie.spec none-requires returns new-profile-requires put-requires returns-2)
+    tie.close (tie.spec none-requires returns new-profile-requires cut-requires returns-2)
