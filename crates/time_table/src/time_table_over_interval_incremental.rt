@@ -32,6 +32,7 @@ pub fn update_time_table(table: Table, old: Part, new: Part, capacity: u32) -> E
     'parts: while k < steps {
         let step = part_by_part::step_at(adjustments, k);
         let mut from = step.part.from;
+        // the row whose pieces are written, the instant at which the step came to it, and its next piece
         let mut row = empty;
         let mut came = from;
         let mut j = Piece::ALL;
