@@ -12,8 +12,9 @@ use Rattle.time_table.specs.Order.{Ordered, ticks, Arranged}
 use Rattle.time_table.proofs.Orders.{ordered-from}
 use Rattle.time_table.proofs.Stretch.{next}
 use Rattle.fit.specs.declared.Asked.{Asked}
+use Rattle.fit.specs.Fits.{seen}
 use Rattle.fit.specs.FirstFit.{moved, settled, answer, firstFit}
-use Rattle.fit.proofs.Candidate.{settled-before, answer-late, room-some}
+use Rattle.fit.proofs.Candidate.{moved-after, moved-under, moved-behind, settled-before, answer-late, room-some}
 
 -- the pass with the candidate `start` and the rows from `at` on before it
 pub record Passing (asked : Asked) (capacity : ℕ) (t : Table) (start at : ℕ) : Type 0 where
@@ -52,13 +53,23 @@ module _ {asked : Asked} {capacity : ℕ} {t : Table} {start at : ℕ} (p : Pass
         let rest = settled-before asked capacity ticks (rowAt (t .rows) at .start) start (rowAt (t .rows) at ∷ drop (suc at) (rowsOf t)) (omega arith, split .1, split .2, split .3) h in
         sym (p .left ∙ ap (answer asked) (rw (next t at (p .clean) lt) rest))
 
-    -- else the row is passed
-    pub pass-goes : Passing asked capacity t (moved asked capacity start (rowAt (t .rows) at)) (at + 1)
+    passed : Passing asked capacity t (moved asked capacity start (rowAt (t .rows) at)) (at + 1)
     unfolding Ordered settled
-    pass-goes =
+    passed =
         record {
           clean = p .clean;
           ordered = rw (add-one at) (ordered-from ticks 0 (rowAt (t .rows) at .end + 1) (drop (suc at) (rowsOf t)) (omega arith) (split .3));
           within = omega arith;
           left = rw (add-one at) (rw (next t at (p .clean) lt) at (p .left));
         }
+
+    -- a row that is not too high is passed over, and so is one that ends before the candidate; any other moves it
+    pub pass-under : seen asked (rowAt (t .rows) at) + asked .usage ≤ capacity → Passing asked capacity t start (at + 1)
+    pass-under h = rw (moved-under asked capacity start (rowAt (t .rows) at) h) at passed
+
+    pub pass-after : rowAt (t .rows) at .end < start → Passing asked capacity t start (at + 1)
+    pass-after h = rw (moved-after asked capacity start (rowAt (t .rows) at) h) at passed
+
+    pub pass-moves : rowAt (t .rows) at .start < start + asked .run → start ≤ rowAt (t .rows) at .end → capacity < seen asked (rowAt (t .rows) at) + asked .usage
+        → Passing asked capacity t (rowAt (t .rows) at .end + 1) (at + 1)
+    pass-moves l h high = rw (moved-behind asked capacity start (rowAt (t .rows) at) l h high) at passed

@@ -1,9 +1,9 @@
 // First fit: the smallest start within a task's bounds at which its run fits under the capacity,
 // beside what a table already holds. One pass over the rows of the table, and none over instants.
 ghost use mathlib.Core.Path.{_≡_};
-ghost use Prim.Native.Nat.{_+_, _≤_, _<_, _^_};
+ghost use Prim.Native.Nat.{_≤_};
 ghost use Rattle.time_table.specs.Rows.{rowsOf};
-ghost use Rattle.fit.specs.FirstFit.{blocks, moved, answer, firstFit, Askable};
+ghost use Rattle.fit.specs.FirstFit.{blocks, answer, firstFit, Askable};
 use time_table::Row;
 use time_table::Table;
 
@@ -30,21 +30,6 @@ fn blocks(row: Row, asked: Asked, capacity: u32) -> bool
     capacity - asked.usage < row.height
 }
 
-// The candidate after a row that does not start behind the run from it: the instant behind the row,
-// where the row reaches the run and blocks it.
-fn moved(row: Row, asked: Asked, capacity: u32, start: u32) -> u32
-    requires { ⌜ (asked .usage ≤ capacity) × (row .end + 1 < 2 ^ 32) × (row .start < start + asked .run) ⌝ }
-    ensures { λ r. ⌜ r ≡ moved asked capacity start row ⌝ }
-{
-    if row.end < start {
-        return start;
-    }
-    if blocks(row, asked, capacity) {
-        return row.end + 1;
-    }
-    start
-}
-
 // The answer from where the candidate comes to rest: none, if that is past the bounds.
 fn answer(asked: Asked, start: u32) -> Fit
     ensures { λ r. ⌜ r ≡ answer asked start ⌝ }
@@ -58,8 +43,10 @@ fn answer(asked: Asked, start: u32) -> Fit
     }
 }
 
-// The smallest start within the bounds at which the run fits, or none. The pass ends early where the
-// candidate is past the bounds, or a row starts behind the run from it.
+// The smallest start within the bounds at which the run fits, or none. A row that does not block is
+// passed over; one that blocks moves the candidate behind itself, unless the row ends before it. The
+// pass ends early where a row blocks and the candidate is past the bounds, or the row starts behind the
+// run from it.
 pub fn first_fit(table: Table, asked: Asked, capacity: u32) -> Fit
     requires { ⌜ Askable table asked ⌝ }
     ensures { λ r. ⌜ r ≡ firstFit asked capacity (rowsOf table) ⌝ }
@@ -73,15 +60,19 @@ pub fn first_fit(table: Table, asked: Asked, capacity: u32) -> Fit
     let mut start = asked.earliest;
     let mut at = 0;
     while at < table.count {
-        if asked.latest < start {
-            return answer(asked, start);
-        }
         let row = table.rows[at];
-        if start + asked.run <= row.start {
-            return answer(asked, start);
-        }
-        start = moved(row, asked, capacity, start);
         at += 1;
+        if blocks(row, asked, capacity) {
+            if asked.latest < start {
+                return answer(asked, start);
+            }
+            if start + asked.run <= row.start {
+                return answer(asked, start);
+            }
+            if start <= row.end {
+                start = row.end + 1;
+            }
+        }
     }
     answer(asked, start)
 }
