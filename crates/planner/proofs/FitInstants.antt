@@ -7,7 +7,7 @@ use mathlib.Core.List.{List, [], _∷_, map}
 use mathlib.Core.Logic.{_↔_, ⊎-elim}
 use Prim.Native.Nat.{ℕ, _+_, _≤_}
 use native.Mathlib.Omega.{arith}
-use borrow.Author.Tests.{leb-true, ltb-true, le-leb, lt-leb, lt-ltb, le-ltb}
+use borrow.Author.Tests.{ltb-true, le-leb, lt-leb, lt-ltb, le-ltb}
 use lib.Dec.{leb, ltb}
 use lib.IntN.{ℤ, pos, _+ℤ_}
 use lib.Signed.{leZ, ltZ}
@@ -30,8 +30,8 @@ use Rattle.planner.specs.Sound.{Sound}
 use Rattle.planner.specs.Questions.{askedBy, startOf, fitOf}
 use Rattle.planner.specs.Refused.{HasTask}
 use Rattle.planner.specs.SignedFit.{heightThen, FitsAt, FirstAt}
-use Rattle.planner.proofs.Ticks.{instant-sum, instant-order, instant-strict}
-use Rattle.planner.proofs.Running.{below, AtTick, placed}
+use Rattle.planner.proofs.Ticks.{instant-sum, instant-order, instant-strict, le-instant, instant-le}
+use Rattle.planner.proofs.Running.{AtTick, at-tick}
 use Rattle.planner.proofs.Known.{known-true}
 use Rattle.planner.proofs.Asking.{fit-asked}
 use Rattle.planner.proofs.Ids.{has-task}
@@ -45,20 +45,9 @@ unfolding heightThen summed has
 height-then [] s = refl
 height-then (r ∷ rs) s = rw (instant-order (r .start) s, instant-order s (r .end), next-test s (r .end), height-then rs s)
 
--- what is not before the instant of a tick is the instant of a tick
-at-tick : (s : ℕ) (t : ℤ) → leZ (instant s) t ≡ true → AtTick t
-at-tick s t h = ⊎-elim (λ at. at) (λ low. absurd (true≢false (sym h ∙ below t s low))) (placed t)
-
--- tests of instants as facts of ticks
-module _ (a b : ℕ) where
-  le-instant : a ≤ b → leZ (instant a) (instant b) ≡ true
-  le-instant h = instant-order a b ∙ le-leb a b h
-
-  instant-le : leZ (instant a) (instant b) ≡ true → a ≤ b
-  instant-le h = leb-true a b (sym (instant-order a b) ∙ h)
-
-  run-end : (d : ℕ) → ltZ (instant a) (instant b +ℤ pos d) ≡ ltb a (b + d)
-  run-end d = rw (← instant-sum b d) (instant-strict a (b + d))
+-- the end of a run, in ticks
+run-end : (a b d : ℕ) → ltZ (instant a) (instant b +ℤ pos d) ≡ ltb a (b + d)
+run-end a b d = rw (← instant-sum b d) (instant-strict a (b + d))
 
 -- a fit in ticks and a fit in instants
 module _ (plan : Plan) (k : Task) where

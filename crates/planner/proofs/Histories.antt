@@ -11,7 +11,7 @@ use lib.ListN.{length, set, length-map}
 use Rattle.time_table.specs.declared.Row.{Row}
 use Rattle.time_table.specs.Rows.{rowsOf, tableOf}
 use Rattle.time_table.specs.Meaning.{Right}
-use Rattle.time_table.specs.Update.{updateOver, updatedRows, updated}
+use Rattle.time_table.specs.Update.{updateOver, updatedRows}
 use Rattle.time_table.specs.declared.Part.{Part}
 use Rattle.time_table.proofs.Edits.{rows-of}
 use Rattle.time_table.proofs.Updates.{UpdateFits, update-fits}
@@ -166,14 +166,19 @@ calls-agree h plan a (c ∷ cs) = calls-agree (lastHeard h c (outcome plan c .an
 pub history-agrees : (calls : List Call) → Agrees (heardAfter freshPlan nothing calls) (planAfter freshPlan calls)
 history-agrees calls = calls-agree nothing freshPlan fresh-agrees calls
 
+-- after every history an accepted call is good: the plan agrees with what is heard then, and the answer is right for it
+pub accepted-good : (calls : List Call) (c : Call) → accepted (outcome (planAfter freshPlan calls) c .answer) ≡ true
+    → Good (hear (heardAfter freshPlan nothing calls) c) (outcome (planAfter freshPlan calls) c)
+accepted-good calls c taken =
+    ⊎-elim
+    (λ refused. absurd (true≢false (sym taken ∙ refused .0)))
+    (λ good. good)
+    (led (heardAfter freshPlan nothing calls) (planAfter freshPlan calls) (history-agrees calls) c)
+
 -- demand 3: after every history, an accepted call is answered as demanded, by the last accepted bounds
 pub demand-three : (calls : List Call) (c : Call) → accepted (outcome (planAfter freshPlan calls) c .answer) ≡ true
     → Answered (hear (heardAfter freshPlan nothing calls) c) (outcome (planAfter freshPlan calls) c)
-demand-three calls c taken =
-    ⊎-elim
-    (λ refused. absurd (true≢false (sym taken ∙ refused .0)))
-    (λ good. good .answered)
-    (led (heardAfter freshPlan nothing calls) (planAfter freshPlan calls) (history-agrees calls) c)
+demand-three calls c taken = accepted-good calls c taken .answered
 
 -- and while the table is live its rows stay as demanded, whatever is refused in between
 pub live-demanded : (calls : List Call) → planAfter freshPlan calls .live ≡ true

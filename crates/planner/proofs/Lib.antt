@@ -21,6 +21,8 @@ pub mod SignedRows
 pub mod HeardJobs
 pub mod Agreeing
 pub mod Histories
+pub mod Cumulative
+pub mod Liveness
 pub mod OverLimit
 pub mod Ids
 pub mod Refused

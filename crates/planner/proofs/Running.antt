@@ -16,7 +16,7 @@ use Rattle.planner.proofs.Tests.{by-test, ltZ-not}
 use Rattle.planner.proofs.Ticks.{instant-tick, instant-sum, instant-low, instant-high, instant-order, instant-strict}
 use Rattle.planner.proofs.Accepted.{Bounds, Amount}
 
-run-instant : (a b d s : ℕ) → mustRun (instant a) (instant b) (pos d) (instant s) ≡ has b (a + d) s
+pub run-instant : (a b d s : ℕ) → mustRun (instant a) (instant b) (pos d) (instant s) ≡ has b (a + d) s
 unfolding mustRun has
 run-instant a b d s = rw (← instant-sum a d, instant-order b s, instant-strict s (a + d))
 
@@ -51,3 +51,7 @@ placed t =
     (λ h. inl (record { at = tick t; is = sym (instant-tick t h) }))
     (λ h. inr (ltZ-not t (bounds .lo) ∙ ap not h))
     (by-test (leZ (bounds .lo) t))
+
+-- what is not before the instant of a tick is the instant of a tick
+pub at-tick : (s : ℕ) (t : ℤ) → leZ (instant s) t ≡ true → AtTick t
+at-tick s t h = ⊎-elim (λ at. at) (λ low. absurd (true≢false (sym h ∙ below t s low))) (placed t)

@@ -64,6 +64,12 @@ instant-order a b =
     (lt-or-le b 1000000000))
     (lt-or-le a 1000000000)
 
+pub le-instant : (a b : ℕ) → a ≤ b → leZ (instant a) (instant b) ≡ true
+le-instant a b h = instant-order a b ∙ le-leb a b h
+
+pub instant-le : (a b : ℕ) → leZ (instant a) (instant b) ≡ true → a ≤ b
+instant-le a b h = leb-true a b (sym (instant-order a b) ∙ h)
+
 pub instant-strict : (a b : ℕ) → ltZ (instant a) (instant b) ≡ ltb a b
 instant-strict a b = ltZ-not (instant a) (instant b) ∙ ap not (instant-order b a) ∙ sym (ltb-not a b)
 

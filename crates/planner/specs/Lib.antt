@@ -12,6 +12,7 @@ pub mod Updates
 pub mod Questions
 pub mod History
 pub mod Demand
+pub mod Cumulative
 pub mod Refused
 pub mod Unique
 pub mod SignedFit

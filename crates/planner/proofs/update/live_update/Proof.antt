@@ -2,7 +2,7 @@
 -- Assumes nothing.
 use mathlib.Core.Path.{_≡_, sym, ap, _∙_}
 use mathlib.Core.Bool.{true}
-use lib.ListN.{getD, set}
+use lib.ListN.{getD}
 use Rattle.time_table.specs.declared.Part.{Part}
 use Rattle.time_table.specs.Rows.{rowsOf}
 use Rattle.time_table.specs.Overload.{conflictIn}
