@@ -1,11 +1,13 @@
 -- The table number by number: each row of it is one of the ways in which a call is judged, and the ways to another number are shut out by the number.
 -- Assumes nothing.
-use mathlib.Core.Path.{_≡_, refl}
-use mathlib.Core.Bool.{true, false}
+use mathlib.Core.Path.{_≡_, refl, sym, ap, _∙_}
+use mathlib.Core.Bool.{true, false, cond}
 use mathlib.Core.List.{List}
 use mathlib.Core.Logic.{_⊎_, _↔_, inl, inr, Iff·trans, Iff·symm}
 use Prim.Native.Nat.{ℕ, _≤_, _<_}
 use native.Mathlib.Omega.{arith}
+use borrow.Author.Tests.{le-ltb}
+use lib.Dec.{eqb}
 use lib.IntN.{ℤ}
 use lib.ListN.{length}
 use lib.Signed.{ltZ}
@@ -14,7 +16,7 @@ use Rattle.planner.specs.declared.Job.{Job}
 use Rattle.planner.specs.declared.Jobs.{Jobs}
 use Rattle.planner.specs.declared.Plan.{Plan}
 use Rattle.planner.specs.declared.Refusal.{Refusal}
-use Rattle.planner.specs.declared.Refusal.the-variants.{TooManyJobs, CapacityOutOfRange, BoundOutOfRange, BoundsCrossed, DurationOutOfRange, UsageOutOfRange, UnknownTask, TooManyRows, Stale}
+use Rattle.planner.specs.declared.Refusal.the-variants.{TooManyJobs, CapacityOutOfRange, BoundOutOfRange, BoundsCrossed, DurationOutOfRange, UsageOutOfRange, UnknownTask, TooManyRows, Stale, ShortSlice, Unreadable}
 use Rattle.planner.specs.declared.Checked.the-variants.{Accepted, Refused}
 use Rattle.planner.specs.declared.Answer.{Answer}
 use Rattle.planner.specs.declared.FirstFit.{FirstFit}
@@ -22,6 +24,7 @@ use Rattle.planner.specs.Refusals.{numberOf}
 use Rattle.planner.specs.Ranges.{InRange, bounds, durations, usages, capacities}
 use Rattle.planner.specs.Checks.{boundsChecked, jobChecked}
 use Rattle.planner.specs.Given.{BoundsGiven, bound-out, crossed, JobGiven, bounds-refused, duration-out, usage-out}
+use Rattle.planner.specs.Kept.{keeping}
 use Rattle.planner.specs.Loads.{jobsOf, loaded}
 use Rattle.planner.specs.Updates.{updated}
 use Rattle.planner.specs.Questions.{fitOf, rowsShown}
@@ -58,6 +61,28 @@ fit-refused-is a why = (λ h. rw h, go a)
     go (FirstFit.Start z) h = let clash : _≡_ {A = ℕ} 0 1 = cc in absurd (omega arith)
     go FirstFit.Nowhere h = let clash : _≡_ {A = ℕ} 0 1 = cc in absurd (omega arith)
     go (FirstFit.Refused other) h = cc
+
+-- a number names one refusal, so what is said below of a refusal is said of its number
+abbrev named : ℕ → Refusal
+named n =
+    cond (eqb n 1) TooManyJobs (cond (eqb n 2) CapacityOutOfRange (cond (eqb n 3) BoundOutOfRange (cond (eqb n 4) BoundsCrossed (cond (eqb n 5) DurationOutOfRange
+    (cond (eqb n 6) UsageOutOfRange (cond (eqb n 7) UnknownTask (cond (eqb n 8) TooManyRows (cond (eqb n 9) Stale (cond (eqb n 10) ShortSlice Unreadable)))))))))
+
+named-number : (why : Refusal) → named (numberOf why) ≡ why
+named-number TooManyJobs = refl
+named-number CapacityOutOfRange = refl
+named-number BoundOutOfRange = refl
+named-number BoundsCrossed = refl
+named-number DurationOutOfRange = refl
+named-number UsageOutOfRange = refl
+named-number UnknownTask = refl
+named-number TooManyRows = refl
+named-number Stale = refl
+named-number ShortSlice = refl
+named-number Unreadable = refl
+
+pub number-names : (a b : Refusal) → numberOf a ≡ numberOf b → a ≡ b
+number-names a b e = sym (named-number a) ∙ ap named e ∙ named-number b
 
 -- the numbers of start bounds, and of a job
 bounds-number : {e l : ℤ} {why : Refusal} → BoundsGiven e l (Refused why) → (3 ≤ numberOf why) × (numberOf why ≤ 4)
@@ -255,3 +280,8 @@ module _ (plan : Plan) where
     where
       go : {why : Refusal} → RowsGiven plan (Refused why) → numberOf why ≡ 9
       go (rows-stale stale) = refl
+
+-- one job more than there is room for is not lost unnoticed: the load is refused
+pub keep-refused : (plan : Plan) (jobs : Jobs) (job : Job) (capacity : ℤ) → 32 ≤ jobs .count → loaded plan (keeping jobs job) capacity .answer ≡ Answer.Refused TooManyJobs
+unfolding keeping
+keep-refused plan jobs job capacity full = load-refused-1 plan (keeping jobs job) capacity .1 (rw (le-ltb _ _ full) (omega arith))

@@ -13,6 +13,9 @@ use Rattle.planner.specs.Given.{noJob}
 abbrev pub jobsWith : List Job → Jobs
 jobsWith js = record { list = pad 32 noJob js; count = length js }
 
--- a job is kept behind the others, up to the 32nd
+-- a job is kept behind the others, up to the 32nd; one more is only counted
 unfoldable pub keeping : Jobs → Job → Jobs
-keeping jobs job = cond (ltb (jobs .count) 32) (record { list = set (jobs .list) (jobs .count) job; count = jobs .count + 1 }) jobs
+keeping jobs job =
+    cond (ltb (jobs .count) 32)
+    (record { list = set (jobs .list) (jobs .count) job; count = jobs .count + 1 })
+    (record { list = jobs .list; count = 33 })

@@ -70,7 +70,8 @@ impl Jobs {
         }
     }
 
-    // The jobs with another behind them, if there is room for it.
+    // The jobs with another behind them. There is room for 32. One more is only counted, so that a load of
+    // these jobs is refused, and no job is lost unnoticed.
     pub fn keep(self, job: Job) -> Jobs
         ensures { λ r. ⌜ r ≡ keeping self job ⌝ }
     {
@@ -79,6 +80,8 @@ impl Jobs {
         if count < Plan::JOBS {
             more.list[count] = job;
             more.count = count + 1;
+        } else {
+            more.count = Plan::JOBS + 1;
         }
         more
     }

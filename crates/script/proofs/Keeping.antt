@@ -3,13 +3,12 @@
 use mathlib.Core.Path.{_≡_, refl, sym}
 use mathlib.Core.List.{[], _∷_}
 use Prim.Native.Nat.{_+_, _≤_, _<_}
-use borrow.Author.Tests.{le-ltb}
+use borrow.Author.Tests.{lt-ltb, le-ltb}
 use denote.Enum.Declared.{tagOf}
 use lib.ListN.{set}
 use types.Run.{OneOf, miss}
 use Rattle.planner.specs.declared.Job.{Job}
 use Rattle.planner.specs.declared.Jobs.{Jobs}
-use Rattle.planner.specs.Kept.{keeping}
 use Rattle.planner.proofs.Kept.{keeping-more}
 use Rattle.script.specs.declared.Command.the-variants as command
 use Rattle.script.specs.declared.Ask.{Ask}
@@ -21,10 +20,9 @@ module _ (jobs : Jobs) where
   -- a job stands behind the others where there is room, and else nothing changes
   pub kept-more : {ask : Ask} (job : Job) → ask ≡ Keep job → jobs .count < 32
       → record { list = set (jobs .list) (jobs .count) job; count = jobs .count + 1 } ≡ keptAfter jobs (command.Ask ask)
-  kept-more job e room = rw e (sym (keeping-more jobs job room))
+  kept-more job e room = rw (e, lt-ltb _ _ room) (sym (keeping-more jobs job room))
 
   pub kept-full : {ask : Ask} (job : Job) → ask ≡ Keep job → 32 ≤ jobs .count → jobs ≡ keptAfter jobs (command.Ask ask)
-  unfolding keeping
   kept-full job e full = rw (e, le-ltb _ _ full)
 
   -- a command with another tag than `Keep` leaves the jobs as they are

@@ -1,5 +1,7 @@
 -- A session: a plan, and the jobs that are kept for its next load. What a command leads to.
+use mathlib.Core.Bool.{cond}
 use mathlib.Core.List.{List, []}
+use lib.Dec.{ltb}
 use lib.IntN.{ℤ}
 use Rattle.planner.specs.declared.Jobs.{Jobs}
 use Rattle.planner.specs.declared.Plan.{Plan}
@@ -15,11 +17,11 @@ use Rattle.script.specs.declared.Call.the-variants.{Load, Update}
 use Rattle.script.specs.declared.Ask.the-variants.{Keep, FirstFit, Rows, Unreadable}
 use Rattle.script.specs.Numbers.{answerNumbers, askNumbers}
 
--- the jobs that are kept; a load, accepted or not, leaves none
+-- the jobs that are kept, up to the 32nd; a load, accepted or not, leaves none
 abbrev pub keptAfter : Jobs → Command → Jobs
 keptAfter jobs (command.Call (Load capacity)) = jobsWith []
 keptAfter jobs (command.Call (Update id earliest latest)) = jobs
-keptAfter jobs (command.Ask (Keep job)) = keeping jobs job
+keptAfter jobs (command.Ask (Keep job)) = cond (ltb (jobs .count) 32) (keeping jobs job) jobs
 keptAfter jobs (command.Ask (FirstFit id)) = jobs
 keptAfter jobs (command.Ask Rows) = jobs
 keptAfter jobs (command.Ask Unreadable) = jobs
