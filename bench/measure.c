@@ -1,7 +1,8 @@
-/* Counts what the clock does not say: the copies of the table that a command makes, and the stack that it needs.
+/* Counts what the clock does not say: the tables that a command copies or clears, and the stack that it needs.
  *
- * The copies are calls of memcpy, memmove and memset with 4 KB and more, which stand here in place of the C library's: only
- * the table, and what holds one, is so large. The stack is painted before a run, and what is no longer paint afterwards was used. */
+ * They are calls of memcpy, memmove and memset with 4 KB and more, which stand here in place of the C library's: only the
+ * table, and what holds one, is so large. What is copied and what is cleared is counted together. The stack is painted
+ * before a run, and what is no longer paint afterwards was used. */
 #include "../library/pass_planner.h"
 
 #include <pthread.h>
@@ -89,7 +90,7 @@ static size_t used(void *(*function)(void *))
     return STACK - clean;
 }
 
-/* The copies that one more of some commands makes, behind a load and two moves. */
+/* The tables that one more of some commands copies or clears, behind a load and two moves. */
 static void show(const char *name, size_t n, const int32_t *first, const int32_t *second)
 {
     unsigned long few;
@@ -106,14 +107,14 @@ static void show(const char *name, size_t n, const int32_t *first, const int32_t
 
 int main(void)
 {
-    show("copies of the table in an update that moves a part", 4, (int32_t[]){PASS_PLANNER_UPDATE, 8, 11, 11},
+    show("tables copied or cleared in an update that moves a part", 4, (int32_t[]){PASS_PLANNER_UPDATE, 8, 11, 11},
          (int32_t[]){PASS_PLANNER_UPDATE, 8, 91, 91});
-    show("copies of the table in an update that nudges it", 4, (int32_t[]){PASS_PLANNER_UPDATE, 8, 91, 91},
+    show("tables copied or cleared in an update that nudges it", 4, (int32_t[]){PASS_PLANNER_UPDATE, 8, 91, 91},
          (int32_t[]){PASS_PLANNER_UPDATE, 8, 92, 92});
-    show("copies of the table in a load", 2, (int32_t[]){PASS_PLANNER_LOAD, 5}, (int32_t[]){PASS_PLANNER_LOAD, 5});
-    show("copies of the table in a first fit", 2, (int32_t[]){PASS_PLANNER_FIRST_FIT, 8},
+    show("tables copied or cleared in a load", 2, (int32_t[]){PASS_PLANNER_LOAD, 5}, (int32_t[]){PASS_PLANNER_LOAD, 5});
+    show("tables copied or cleared in a first fit", 2, (int32_t[]){PASS_PLANNER_FIRST_FIT, 8},
          (int32_t[]){PASS_PLANNER_FIRST_FIT, 8});
-    show("copies of the table in a refused update", 4, (int32_t[]){PASS_PLANNER_UPDATE, -1, 0, 0},
+    show("tables copied or cleared in a refused update", 4, (int32_t[]){PASS_PLANNER_UPDATE, -1, 0, 0},
          (int32_t[]){PASS_PLANNER_UPDATE, -1, 0, 0});
     length = 0;
     load();

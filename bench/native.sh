@@ -1,7 +1,8 @@
 #!/bin/sh
 # native.sh OUT: the static library's LLVM module, compiled for this processor to the object OUT.
 # `rt staticlib` writes x86-64 alone. This runs it with a folder of links to the kit in which clang is a script that keeps the module that it
-# is handed, and then has the kit's own clang compile that module at -O3, as it did for x86-64.
+# is handed, and then has the kit's own clang compile that module at -O3, as it did for x86-64. On another processor that one says that it
+# ignores the processor x86-64, which the module names.
 set -eu
 out=$1
 machine=$(uname -m)
@@ -27,4 +28,4 @@ END
 chmod +x "$links/on/$machine/toolchain/bin/clang"
 RATTLE_HOME=$links rt staticlib script
 mkdir -p "$(dirname "$out")"
-"$clang" --target="$machine-unknown-linux-gnu" -O3 -fPIC -ffunction-sections -w -c -x ir "$links/kept.bc" -o "$out" 2>/dev/null
+"$clang" --target="$machine-unknown-linux-gnu" -O3 -fPIC -ffunction-sections -w -c -x ir "$links/kept.bc" -o "$out"
