@@ -8,8 +8,12 @@
  *   4 id                               asks for the task's first fit
  *   5                                  asks for the rows of the table
  *
+ * Ids are given by a load: jobs with usage 0 or duration 0 are dropped and have none, and the others are
+ * numbered from 0 by usage, greatest first, equal usages in input order. No answer says which id a job
+ * got.
+ *
  * The answers stand one after another, each its kind and then its numbers. A job that is kept has no
- * answer; every other command has one.
+ * answer; every other command has one, and so has a 33rd job, which is refused.
  *
  *   0                                  a load or an update: the supply is not overloaded
  *   1 start end height                 a load or an update: overloaded, and the first row that is too high
@@ -19,11 +23,18 @@
  *   5 count                            the rows, and behind it for each row:
  *     start end height count ids       the last instant of a row is its end; as many ids as count says
  *
+ * No answer is longer than that of the rows: at most 2 + 128 * 36 = 4610 numbers, as there are at most
+ * 128 rows with at most 32 ids each.
+ *
  * The refusals: 1 more than 32 jobs, 2 capacity out of range, 3 a start bound out of range, 4 earliest
- * start greater than latest, 5 duration out of range, 6 usage out of range, 7 no task has this id, 8 the
- * table would have over 128 rows, 9 rows or first fit asked while the table is stale, 11 the script
- * cannot be read from here on: no command has this kind, or the last command is cut off. What follows
- * a refusal 11 is not run.
+ * start greater than latest, 5 duration out of range, 6 usage out of range, 7 no task has this id, 8
+ * after some one part of the update the table would have over 128 rows, 9 rows or first fit asked while
+ * the table is stale, 11 the script cannot be read from here on: no command has this kind, or the last
+ * command is cut off. What follows a refusal 11 is not run. After any refusal all stays as before, but
+ * that a refused load, too, keeps none of the jobs.
+ *
+ * The table is stale while the last accepted load has answered 1, overloaded, and no update since then
+ * has answered 0. A stale table has no rows.
  *
  * Start bounds are from -1000000000 to 1000000000, durations and capacities from 0 to 1000000000, usages
  * from 0 to 1000000. Any number may stand anywhere: what is out of range is refused. */

@@ -1,5 +1,6 @@
 // The signed border: the checks of the numbers that a caller hands in, and how they become ticks and
-// amounts and come back. No other module sees a sign.
+// amounts and come back. No other module sees a sign, but that `update::is_known` asks whether an id is
+// below 0.
 ghost use mathlib.Core.Path.{_≡_};
 ghost use mathlib.Core.Bool.{true};
 ghost use Prim.Native.Nat.{_≤_, _<_};
@@ -23,7 +24,7 @@ pub(crate) fn tick_of(bound: i32) -> u32
     (bound + Plan::BOUND) as u32
 }
 
-// The number of a duration, a usage or a capacity.
+// The number of a duration, a usage, a capacity or an id.
 pub(crate) fn amount_of(x: i32) -> u32
     requires { ⌜ leZ (pos 0) x ≡ true ⌝ }
     ensures { λ r. ⌜ r ≡ amount x ⌝ }

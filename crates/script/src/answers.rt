@@ -16,7 +16,7 @@ use planner::Refusal;
 use planner::RowRecord;
 use planner::Rows;
 
-// An amount as a signed number, at most the greatest there is.
+// An amount as an i32; 2147483647 stands for anything greater.
 fn signed(amount: u64) -> i32
     ensures { λ r. ⌜ r ≡ signedOf amount ⌝ }
 {

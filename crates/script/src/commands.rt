@@ -41,7 +41,8 @@ fn is_whole(kind: u32, left: usize, wanted: u32, numbers: usize) -> bool
     false
 }
 
-// The command of a kind, of which so many numbers are left, with the numbers behind the kind.
+// The command of a kind, with the numbers behind the kind. `left`: how many numbers the script has from
+// the kind on, the kind included.
 fn command_of(kind: u32, left: usize, a: i32, b: i32, c: i32, d: i32) -> Command
     ensures { λ r. ⌜ r ≡ commandWith kind left a b c d ⌝ }
 {

@@ -69,8 +69,9 @@ fn turns_left(turns: u64, more: bool) -> u64
     if more { turns - 1 } else { 0 }
 }
 
-// A proved loop has to end, and nothing says that the input does. So the loop counts its turns down,
-// from a number that no run uses up.
+// Reads and answers until the end of the input or an answer that cannot be written, and gives the last
+// state. A proved loop has to end, and nothing says that the input does. So the loop counts its turns
+// down, from a number that no run uses up.
 fn run(out: &mut [u8]) -> State
     requires { ⌜ longest ≤ length (now out) ⌝ }
     ensures { λ r. ⌜ ReadyState r ⌝ }
@@ -85,8 +86,9 @@ fn run(out: &mut [u8]) -> State
     state
 }
 
-// Answers standard input on standard output, up to its end or an answer that cannot be written, and says
-// in what state that ended.
+// Answers standard input on standard output, up to its end or an answer that cannot be written, and
+// gives the last state. A last line that lacks its line feed is answered, too, but the state is the one
+// before that.
 pub fn answer_input() -> State
     ensures { λ r. ⌜ ReadyState r ⌝ }
 {

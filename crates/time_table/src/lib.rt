@@ -2,7 +2,8 @@
 // their draws, and how a part of a task is put into the rows and taken out of them.
 //
 // A port of Pumpkin's over-interval time-table; the modules have the names of the files that they
-// follow. Instants are ticks, so that no number can stand for "none" (docs/DECISIONS.md).
+// follow, but for `part_by_part` and `pieces`. Instants are ticks, so that no number can stand for
+// "none" (docs/DECISIONS.md).
 pub mod checks;
 pub mod mandatory_part_adjustments;
 mod part_by_part;
@@ -45,7 +46,8 @@ pub struct Conflict {
     pub row: Row,
 }
 
-// A table after an update, or the table as it was, and `over`; and its first row that is too high.
+// A table after an update, or, where some one part would leave over 128 rows, the table as it was and
+// `over`; and its first row that is too high.
 pub struct Edited {
     pub table: Table,
     pub conflict: Conflict,

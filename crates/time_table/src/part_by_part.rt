@@ -38,8 +38,8 @@ pub(crate) fn step_at(adjustments: MandatoryPartAdjustments, k: usize) -> Step
     }
 }
 
-// Whether a step that has come to the instant `from` leaves a row that does not end before its part as
-// it is, with nothing before it.
+// Whether a row stays as it is and nothing is laid before it. `from` is the instant up to which the
+// step's part is done; the row does not end before the part.
 pub(crate) fn is_untouched(step: Step, from: u32, profile: Row) -> bool
     ensures { λ r. ⌜ r ≡ untouched step from profile ⌝ }
 {
@@ -80,7 +80,8 @@ pub(crate) fn covered_piece(taking: bool, part: Part, profile: Row) -> Piece
     checks::overlap_updated_profile(part, profile)
 }
 
-// The next piece from the number j on of those that a part makes of a row.
+// Of the four pieces that a part makes of a row (0 the gap before it, 1 left, 2 covered, 3 right), the
+// first from number j on that is there; none if there is none.
 pub(crate) fn next_piece(taking: bool, part: Part, profile: Row, j: usize) -> Piece
     requires { ⌜ Changeable taking part profile × (j < 4) ⌝ }
     ensures { λ r. ⌜ NextPiece taking part profile j r ⌝ }

@@ -11,12 +11,13 @@ use crate::mandatory_part_adjustments::get_mandatory_part_adjustments;
 use crate::part_by_part;
 use crate::pieces::Piece;
 
-// The table of a task's old mandatory part turned into that of its new one, or over, and its first row
-// that is too high: first what is removed is done, then what is added. Each part finds the first row
-// that does not end before it, by halving, and goes on from there: it reads the rows at `i`, writes
-// what becomes of them at `n`, and clears the places of old rows that are left behind. Rows that would
-// be written over before they are read are read from a copy, `source`. One function does it all, since
-// to hand the rows to another would copy them.
+// The table of a task's old mandatory part turned into that of its new one, or, where some one part
+// would leave over 128 rows, the table as it was and `over`; and its first row that is too high. First
+// what is removed is done, then what is added. Each part finds the first row that does not end before
+// it, by halving, and goes on from there: it reads the rows at `i`, writes what becomes of them at `n`,
+// and clears the places of old rows that are left behind. Rows that would be written over before they
+// are read are read from a copy, `source`. One function does it all, since to hand the rows to another
+// would copy them.
 pub fn update_time_table(table: Table, old: Part, new: Part, capacity: u32) -> Edited
     requires { ⌜ Updatable old new table ⌝ }
     ensures { λ r. ⌜ r ≡ updated capacity old new table ⌝ }
