@@ -1,15 +1,33 @@
--- What a line's answer promises determines the session, the length and each byte of the lent slice.
+-- What a line's answer promises determines the session, the length and each byte of the lent slice; so do the promises for some bytes and for the end of the input.
 -- Assumes nothing.
 use mathlib.Core.Path.{_≡_, sym, ap, _∙_}
 use mathlib.Core.List.{List, _++_}
 use Prim.Native.Nat.{ℕ}
 use lib.ListN.{drop}
 use Rattle.command.specs.declared.Answered.{Answered}
+use Rattle.command.specs.declared.lines.State.{State}
+use Rattle.command.specs.declared.lines.Served.{Served}
 use Rattle.command.specs.Sessions.{Outcome, Answers}
+use Rattle.command.specs.Lines.{served, Serves, finished}
+use Rattle.command.specs.Unique.{FinishPromise}
+
+-- a text of one length in front of what was there
+text-unique : (text out : List ℕ) {a b : List ℕ} {n m : ℕ} → n ≡ m → a ≡ text ++ drop n out → b ≡ text ++ drop m out → a ≡ b
+text-unique text out len p q = p ∙ ap (λ (n : ℕ). text ++ drop n out) len ∙ sym q
 
 pub answers-unique : (o : Outcome) (out a b : List ℕ) (r q : Answered) → Answers o out a r → Answers o out b q → (a ≡ b) × (r ≡ q)
 answers-unique o out a b r q g h =
+    let len : r .len ≡ q .len = g .len ∙ sym (h .len) in
+    (text-unique (o .text) out len (g .text) (h .text), (λ i. record { session = (g .session ∙ sym (h .session)) i; len = len i }))
+
+pub serves-unique : (s : State) (bytes : List ℕ) (at : ℕ) (out a b : List ℕ) (r q : Served) → Serves s bytes at r out a → Serves s bytes at q out b → (a ≡ b) × (r ≡ q)
+serves-unique s bytes at out a b r q g h =
     let len : r .len ≡ q .len = g .len ∙ sym (h .len) in (
-      g .text ∙ ap (λ (n : ℕ). o .text ++ drop n out) len ∙ sym (h .text),
-      (λ i. record { session = (g .session ∙ sym (h .session)) i; len = len i }),
+      text-unique (served s at bytes .text) out len (g .text) (h .text),
+      (λ i. record { state = (g .state ∙ sym (h .state)) i; next = (g .next ∙ sym (h .next)) i; len = len i }),
     )
+
+pub finish-unique : (s : State) (out a b : List ℕ) (r q : ℕ) → FinishPromise s out a r → FinishPromise s out b q → (a ≡ b) × (r ≡ q)
+finish-unique s out a b r q g h =
+    let len : r ≡ q = g .0 ∙ sym (h .0) in
+    (text-unique (finished s) out len (g .1) (h .1), len)

@@ -6,3 +6,4 @@ pub mod Written
 pub mod Sessions
 pub mod Lines
 pub mod Listing
+pub mod Unique

@@ -6,3 +6,4 @@ pub mod LentArray
 pub mod Copying
 pub mod CopyGiven
 pub mod AsBefore
+pub mod Unique

@@ -1,3 +1,4 @@
 pub mod Changes
 pub mod Kept
 pub mod Copies
+pub mod Unique

@@ -3,3 +3,4 @@ pub mod Pages
 pub mod Numbers
 pub mod Sessions
 pub mod Runs
+pub mod Unique
