@@ -15,3 +15,4 @@ pub mod Transcript
 pub mod Examples
 pub mod Unique
 pub mod Listing
+pub mod Unreadable
