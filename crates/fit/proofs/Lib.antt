@@ -1,4 +1,3 @@
 pub mod Candidate
 pub mod Pass
 pub mod FirstFit
-pub mod Examples

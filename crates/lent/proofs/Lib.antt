@@ -5,5 +5,4 @@ pub mod Lent
 pub mod LentArray
 pub mod Copying
 pub mod CopyGiven
-pub mod AsBefore
 pub mod Unique
