@@ -23,6 +23,7 @@ pub mod Agreeing
 pub mod Histories
 pub mod Cumulative
 pub mod Liveness
+pub mod Places
 pub mod OverLimit
 pub mod Ids
 pub mod Refused

@@ -14,6 +14,7 @@ pub mod History
 pub mod Demand
 pub mod Cumulative
 pub mod Refused
+pub mod Places
 pub mod Unique
 pub mod SignedFit
 pub mod Corners
