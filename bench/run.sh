@@ -8,7 +8,7 @@ if [ "$(uname -m)" = x86_64 ]; then
     PASS_PLANNER=$target/staticlib/libscript.a
 else
     PASS_PLANNER=$target/bench/script.o
-    (cd .. && sh bench/native.sh "$PASS_PLANNER")
+    sh ../native.sh script "$PASS_PLANNER"
 fi
 ${CC:-cc} -std=c99 -D_POSIX_C_SOURCE=200809L -O2 -fno-builtin -Wall -Wextra -Werror -pthread -o "$target/measure" measure.c "$PASS_PLANNER"
 "$target/measure"

@@ -1,0 +1,42 @@
+#!/bin/sh
+# native.sh CRATE OUT: what `rt` compiles for x86-64, compiled for this processor: of the library `script` an object, of a program the program.
+# This runs `rt` with a folder of links to the kit in which clang is a script that keeps the LLVM module that it is handed. Then the kit's own clang
+# compiles that module at -O3, as it did for x86-64; on another processor it says that it ignores the processor x86-64, which the module names.
+set -eu
+cd "$(dirname "$0")"
+crate=$1
+out=$2
+machine=$(uname -m)
+kit=$(dirname "$(dirname "$(rt doc)")")
+clang=$kit/on/$machine/toolchain/bin/clang
+links=$(mktemp -d)
+chmod 755 "$links" # rt runs a program as nobody, through these links
+trap 'rm -rf "$links"' EXIT
+mkdir -p "$links/on/$machine/toolchain/bin" "$(dirname "$out")"
+link() { # each entry of a folder but one
+    for entry in "$1"/*; do
+        [ "$(basename "$entry")" = "$3" ] || ln -s "$entry" "$2"
+    done
+}
+link "$kit" "$links" on
+link "$kit/on/$machine" "$links/on/$machine" toolchain
+link "$kit/on/$machine/toolchain" "$links/on/$machine/toolchain" bin
+link "$kit/on/$machine/toolchain/bin" "$links/on/$machine/toolchain/bin" clang
+cat >"$links/on/$machine/toolchain/bin/clang" <<END
+#!/bin/sh
+cp module.bc "$links/kept.bc"
+exec "$clang" "\$@"
+END
+chmod +x "$links/on/$machine/toolchain/bin/clang"
+compile() { # to an object
+    "$clang" --target="$machine-unknown-linux-gnu" -O3 -fPIC -ffunction-sections -w -c -x ir "$links/kept.bc" -o "$1"
+}
+if [ -f "crates/$crate/src/main.rt" ]; then
+    rm -f "target/stamp/$crate" # so that it is compiled again
+    RATTLE_HOME=$links rt check "$crate"
+    compile "$links/program.o"
+    ${CC:-cc} -o "$out" "$links/program.o"
+else
+    RATTLE_HOME=$links rt staticlib "$crate"
+    compile "$out"
+fi
