@@ -40,7 +40,7 @@ use Rattle.planner.proofs.Ids.{has-task}
 next-test : (a b : ℕ) → ltb a (b + 1) ≡ leb a b
 next-test a b = ⊎-elim (λ h. le-ltb a (b + 1) (omega arith) ∙ sym (lt-leb a b h)) (λ h. lt-ltb a (b + 1) (omega arith) ∙ sym (le-leb a b h)) (lt-or-le b a)
 
-height-then : (rows : List Row) (s : ℕ) → heightThen (map recordOf rows) (instant s) ≡ heightAt s rows
+pub height-then : (rows : List Row) (s : ℕ) → heightThen (map recordOf rows) (instant s) ≡ heightAt s rows
 unfolding heightThen summed has
 height-then [] s = refl
 height-then (r ∷ rs) s = rw (instant-order (r .start) s, instant-order s (r .end), next-test s (r .end), height-then rs s)

@@ -55,7 +55,7 @@ set-map [] i j = refl
 set-map (k ∷ js) zero j = refl
 set-map (k ∷ js) (suc i) j = ap (λ (l : List Task). taskOf k ∷ l) (set-map js i j)
 
-numbers-at : (js : List Job) → AllNumbers js → (i : ℕ) → i < length js → Numbers (getD js i noJob)
+pub numbers-at : (js : List Job) → AllNumbers js → (i : ℕ) → i < length js → Numbers (getD js i noJob)
 unfolding AllNumbers
 numbers-at [] n i lt = absurd (not-suc-le-zero lt)
 numbers-at (j ∷ js) n zero lt = n .0

@@ -30,4 +30,5 @@ pub mod Refused
 pub mod Numbers
 pub mod Unique
 pub mod FitInstants
+pub mod HeardFit
 pub mod Corners

@@ -38,7 +38,7 @@ use Rattle.planner.proofs.SignedDraws.{AllNumbers, runs-signed, draw-si
 
 module _ (h : Heard) (ts : Tasks) (sound : SoundTasks ts) (same : tasksOf ts ≡ map taskOf (h .jobs)) (nums : AllNumbers (h .jobs))
     (rows : List Row) (right : Right (runs (tasksOf ts)) (usageOf (tasksOf ts)) rows) where
-  counts : ts .count ≡ length (h .jobs)
+  pub counts : ts .count ≡ length (h .jobs)
   counts = sound .held .counts ∙ ap length same ∙ length-map (h .jobs) taskOf
 
   drawn-tick : (s : ℕ) → drawnAt (h .jobs) (instant s) ≡ drawAt (runs (tasksOf ts)) (usageOf (tasksOf ts)) (ts .count) s
@@ -47,7 +47,7 @@ module _ (h : Heard) (ts : Tasks) (sound : SoundTasks ts) (same : tasksOf ts ≡
   run-tick : (i s : ℕ) → runningAt (h .jobs) i (instant s) ≡ runs (tasksOf ts) i s
   run-tick i s = runs-signed (h .jobs) nums i s ∙ rw same refl
 
-  height-signed : (s : ℕ) → heightAt s rows ≡ drawnAt (h .jobs) (instant s)
+  pub height-signed : (s : ℕ) → heightAt s rows ≡ drawnAt (h .jobs) (instant s)
   height-signed s = height-drawn (runs (tasksOf ts)) (usageOf (tasksOf ts)) (ts .count) rows right (sound-few ts sound) s ∙ sym (drawn-tick s)
 
   -- what exceeds, exceeds at a tick

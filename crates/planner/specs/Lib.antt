@@ -17,4 +17,5 @@ pub mod Refused
 pub mod Places
 pub mod Unique
 pub mod SignedFit
+pub mod HeardFit
 pub mod Corners
