@@ -47,7 +47,7 @@ unfolding AllNumbers amount
 fresh-agrees = record { sound = fresh-sound; tasks = refl; numbers = tt; capacity = refl }
 
 -- "overloaded" is answered exactly if a row was found
-answer-over : (c : Conflict) → (answerOf c ≡ Overloaded) ↔ (c .found ≡ true)
+pub answer-over : (c : Conflict) → (answerOf c ≡ Overloaded) ↔ (c .found ≡ true)
 answer-over c = (go (c .found), λ e. ap (λ (b : Bool). cond b Overloaded Fits) e)
   where
     go : (b : Bool) → cond b Overloaded Fits ≡ Overloaded → b ≡ true

@@ -60,7 +60,7 @@ load-live plan jobs capacity = go (loadChecked jobs capacity) refl
 
 module _ (plan : Plan) (id earliest latest : ℤ) where
   -- the ways of an update
-  by-update : (P : Updated → Type 0) → ((why : Refusal) → P (refusedUpdate plan why)) → P (acceptedUpdate plan (amount id) (tick earliest) (tick latest))
+  pub by-update : (P : Updated → Type 0) → ((why : Refusal) → P (refusedUpdate plan why)) → P (acceptedUpdate plan (amount id) (tick earliest) (tick latest))
       → P (outcome plan (update id earliest latest))
   by-update P refused taken =
       ⊎-elim

@@ -86,7 +86,7 @@ module _ (plan : Plan) (s : Sound plan) (i e l : ℕ) (lt : i < plan .tasks .cou
 
 -- the cases of an accepted update
 module _ (plan : Plan) (i e l : ℕ) where
-  abbrev changed : Task
+  abbrev pub changed : Task
   changed = bounded (taskAt (tasksOf (plan .tasks)) i) e l
 
   pub accepted-live : plan .live ≡ true → acceptedUpdate plan i e l ≡ liveUpdate plan i changed

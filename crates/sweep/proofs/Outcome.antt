@@ -24,7 +24,7 @@ use Rattle.sweep.proofs.Swept.{sweep-length}
 use Rattle.sweep.proofs.Right.{sweep-right}
 
 module _ (capacity : ℕ) where
-  conflict-first : (rows : List Row) → conflictIn capacity rows .found ≡ true → FirstOver capacity rows (conflictIn capacity rows .row)
+  pub conflict-first : (rows : List Row) → conflictIn capacity rows .found ≡ true → FirstOver capacity rows (conflictIn capacity rows .row)
   unfolding conflictIn
   conflict-first [] e = let z : _≡_ {A = ℕ} 0 1 = cc in absurd (omega arith)
   conflict-first (r ∷ rs) e = go (ltb capacity (r .height)) refl e (conflict-first rs)
@@ -44,7 +44,7 @@ module _ (capacity : ℕ) where
           later low w =
               record { at = suc (w .at); within = omega (arith, w .within); is = w .is; over = w .over; first = λ k lt. below (w .at) k low (w .first) lt }
 
-  conflict-none : (rows : List Row) → conflictIn capacity rows .found ≡ false → NoneOver capacity rows
+  pub conflict-none : (rows : List Row) → conflictIn capacity rows .found ≡ false → NoneOver capacity rows
   unfolding conflictIn
   conflict-none [] e = λ k lt. absurd (not-suc-le-zero lt)
   conflict-none (r ∷ rs) e = go (ltb capacity (r .height)) refl e (conflict-none rs)
