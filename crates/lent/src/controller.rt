@@ -9,7 +9,7 @@ use crate::in_place::update_in_place;
 use planner::Answer;
 use planner::Jobs;
 use planner::Plan;
-use planner::RowRecord;
+use planner::records;
 
 // A controller: its plan, and what the last change of it answered.
 pub struct Controller {
@@ -23,13 +23,7 @@ impl Controller {
         ensures { λ r. ⌜ r ≡ freshController ⌝ }
         ensures { λ r. ⌜ Sound (r .plan) ⌝ }
     {
-        let row = RowRecord {
-            start: 0,
-            end: 0,
-            height: 0,
-            ids: [0u8; 32],
-            count: 0,
-        };
+        let row = records::no_record();
         Controller {
             plan: Plan::fresh(),
             last: Changed {

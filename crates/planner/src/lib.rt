@@ -3,7 +3,7 @@
 mod border;
 pub mod load;
 pub mod questions;
-mod records;
+pub mod records;
 pub mod update;
 
 ghost use mathlib.Core.Path.{_≡_};

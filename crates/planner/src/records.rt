@@ -7,7 +7,7 @@ use crate::border;
 use time_table::Row;
 
 // The record of nothing.
-pub(crate) fn no_record() -> RowRecord
+pub fn no_record() -> RowRecord
     ensures { λ r. ⌜ r ≡ noRecord ⌝ }
 {
     RowRecord {

@@ -6,6 +6,9 @@ use lib.IntN.{ℤ}
 use Rattle.planner.specs.declared.Jobs.{Jobs}
 use Rattle.planner.specs.declared.Plan.{Plan}
 use Rattle.planner.specs.declared.Updated.{Updated}
+use Rattle.planner.specs.declared.Answer.the-variants.{Fits}
+use Rattle.planner.specs.Records.{noRecord}
+use Rattle.planner.specs.Answers.{freshPlan}
 use Rattle.planner.specs.Kept.{jobsWith, keeping}
 use Rattle.planner.specs.History.{withoutPlaces}
 use Rattle.planner.specs.Loads.{loaded}
@@ -16,6 +19,10 @@ use Rattle.script.specs.declared.Call.{Call}
 use Rattle.script.specs.declared.Call.the-variants.{Load, Update}
 use Rattle.script.specs.declared.Ask.the-variants.{Keep, FirstFit, Rows, Unreadable}
 use Rattle.script.specs.Numbers.{answerNumbers, askNumbers}
+
+-- a run begins with a fresh plan, and as if something that fits had been answered
+abbrev pub begun : Updated
+begun = record { plan = freshPlan; answer = Fits; row = noRecord }
 
 -- the jobs that are kept, up to the 32nd; a load, accepted or not, leaves none
 abbrev pub keptAfter : Jobs → Command → Jobs

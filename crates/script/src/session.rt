@@ -1,31 +1,24 @@
 // The state that a run begins with, and what a load of the kept jobs leads to.
 ghost use mathlib.Core.Path.{_≡_};
 ghost use Rattle.planner.specs.Sound.{Sound};
-ghost use Rattle.planner.specs.Answers.{freshPlan};
 ghost use Rattle.planner.specs.History.{withoutPlaces};
 ghost use Rattle.planner.specs.Loads.{loaded};
+ghost use Rattle.script.specs.Sessions.{begun};
 use planner::Answer;
 use planner::Jobs;
 use planner::Plan;
-use planner::RowRecord;
 use planner::Updated;
+use planner::records;
 
 // A fresh plan, with nothing answered yet.
 pub(crate) fn begun() -> Updated
-    ensures { λ r. ⌜ r .plan ≡ freshPlan ⌝ }
+    ensures { λ r. ⌜ r ≡ begun ⌝ }
     ensures { λ r. ⌜ Sound (r .plan) ⌝ }
 {
-    let row = RowRecord {
-        start: 0,
-        end: 0,
-        height: 0,
-        ids: [0; 32],
-        count: 0,
-    };
     Updated {
         plan: Plan::fresh(),
         answer: Answer::Fits,
-        row,
+        row: records::no_record(),
     }
 }
 

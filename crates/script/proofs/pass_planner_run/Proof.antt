@@ -130,7 +130,7 @@ empty-requires c κs = search needs
 
 loop-holds : tie.Need-loop-holds Inv-loop μ-loop
 unfolding run
-loop-holds c = (omega arith, c .before .begun .ensures .1, rw (c .before .begun .ensures .0, c .empty .ensures) refl)
+loop-holds c = (omega arith, c .before .begun .ensures .1, rw (ap (λ (u : Updated). u .plan) (c .before .begun .ensures .0), c .empty .ensures) refl)
 
 command-at-requires : tie.Need-command-at-requires Inv-loop μ-loop
 command-at-requires c κs = c .loop-test .taken
