@@ -27,11 +27,11 @@ pub mod Steps
 pub mod AdjustedRight
 pub mod Demanded
 pub mod Overloaded
-pub mod Meets
 pub mod Piecewise
 pub mod Front
 pub mod Laying
 pub mod Edits
 pub mod Updates
+pub mod Meets
 pub mod Progress
 pub mod Examples
