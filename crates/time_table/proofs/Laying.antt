@@ -12,7 +12,6 @@ use lib.Dec.{leb}
 use lib.ListN.{length, drop, set, length-append, drop-of-length-le}
 use lib.Seq.{drop-cons, getD-take, append-snoc}
 use Rattle.time_table.specs.declared.Row.{Row}
-use Rattle.time_table.specs.declared.Part.{Part}
 use Rattle.time_table.specs.declared.Table.{Table}
 use Rattle.time_table.specs.declared.pieces.Piece.{Piece}
 use Rattle.time_table.specs.declared.part_by_part.Step.{Step}
