@@ -11,6 +11,7 @@ pub mod Orders
 pub mod Stretch
 pub mod Build
 pub mod Apart
+pub mod Sentence
 pub mod Scan
 pub mod InsertionSum
 pub mod RemovalSum

@@ -10,5 +10,6 @@ pub mod Overlap
 pub mod Overload
 pub mod Meaning
 pub mod Update
+pub mod Sentence
 pub mod Stepping
 pub mod Demand
