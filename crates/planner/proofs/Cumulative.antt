@@ -18,7 +18,7 @@ use Rattle.planner.specs.Instants.{instant, tick, amount, mustRun}
 use Rattle.planner.specs.Answers.{freshPlan}
 use Rattle.planner.specs.History.{Call, Heard, nothing, accepted, outcome, hear, planAfter, heardAfter}
 use Rattle.planner.specs.Demand.{running, drawnAt, Exceeds}
-use Rattle.planner.specs.Cumulative.{StartOf, runsFrom, Starts, none, one, drawnFrom, Cumulative, AllFixed}
+use Rattle.planner.specs.Cumulative.{StartOf, runsFrom, Starts, one, drawnFrom, Cumulative, AllFixed}
 use Rattle.planner.proofs.Tests.{both}
 use Rattle.planner.proofs.Ticks.{le-instant, instant-le}
 use Rattle.planner.proofs.Running.{AtTick, run-instant, run-at, at-tick}
