@@ -1,7 +1,7 @@
 -- Lines and texts of document 01, by computation.
 -- Assumes nothing.
 use mathlib.Core.Path.{_≡_, refl}
-use mathlib.Core.List.{[], _∷_}
+use mathlib.Core.List.{[], _∷_, flatMap}
 use lib.IntN.{pos, negsuc}
 use Rattle.time_table.specs.Held.{pad}
 use Rattle.command.specs.declared.number.Number.{Number}
@@ -9,7 +9,7 @@ use Rattle.command.specs.declared.Command.the-variants.{Keep, Update, Fi
 use Rattle.command.specs.Decimal.{digitsIn, decimal, signedText}
 use Rattle.command.specs.Numbers.{isDigit, magnitudeFrom, signedOf, numberOf}
 use Rattle.command.specs.Grammar.{fieldsOf, valuesOf, numbersTaken, commandWith, byLetter, commandOf}
-use Rattle.command.specs.Text.{textOf, rowText, countText, overloadText}
+use Rattle.command.specs.Text.{rowText, countText, overloadText}
 
 -- `J 0 0 4 2`, `U 2 -9 11`, `P -0`, `T`
 job : commandOf (74 ∷ 32 ∷ 48 ∷ 32 ∷ 48 ∷ 32 ∷ 52 ∷ 32 ∷ 50 ∷ []) ≡ Keep (record { earliest = pos 0; latest = pos 0; duration = pos 4; usage = pos 2 })
@@ -64,7 +64,7 @@ past = refl
 
 -- `3 3 5 1 0`, `O 3 3 6`, `E 128`, and a start of -10
 row : rowText (record { start = pos 3; end = pos 3; height = 5; ids = pad 32 0 (1 ∷ 0 ∷ []); count = 2 }) ≡ 51 ∷ 32 ∷ 51 ∷ 32 ∷ 53 ∷ 32 ∷ 49 ∷ 32 ∷ 48 ∷ 10 ∷ []
-unfolding rowText textOf decimal digitsIn signedText
+unfolding rowText flatMap decimal digitsIn signedText
 row = refl
 
 overload : overloadText (record { start = pos 3; end = pos 3; height = 6; ids = pad 32 0 []; count = 0 }) ≡ 79 ∷ 32 ∷ 51 ∷ 32 ∷ 51 ∷ 32 ∷ 54 ∷ 10 ∷ []

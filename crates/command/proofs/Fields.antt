@@ -1,10 +1,9 @@
 -- The fields of a line, read from left to right: how long the first is, and which follow.
 -- Assumes nothing.
-use mathlib.Core.Path.{_≡_, refl, sym, ap, _∙_}
+use mathlib.Core.Path.{_≡_, refl, ap, _∙_}
 use mathlib.Core.Bool.{Bool, true, false, cond}
 use mathlib.Core.List.{List, [], _∷_}
 use Prim.Native.Nat.{ℕ, zero, suc, _+_, _-_, _≤_, _<_}
-use mathlib.Core.Logic.{⊎-elim}
 use native.Mathlib.Nat.{add-assoc}
 use native.Mathlib.Numerals.{add-one}
 use native.Mathlib.Omega.{arith}
@@ -12,7 +11,7 @@ use borrow.Author.Tests.{eq-eqb, ne-eqb, le-leb, lt-leb}
 use lib.Dec.{eqb, leb, leb·suc-suc}
 use lib.ListN.{length, take, drop, getD, length-drop, drop-of-length-le}
 use lib.Seq.{drop-cons, drop-drop, take-nil}
-use Rattle.time_table.proofs.Sums.{lt-or-le}
+use Rattle.time_table.proofs.Bits.{same-test}
 use Rattle.command.specs.declared.Command.the-variants.{Unreadable}
 use Rattle.command.specs.Grammar.{inFirst, fieldsOf, fieldLength, fieldsFrom, valuesOf, asked, askedBy, commandOf}
 
@@ -54,11 +53,7 @@ first-field (b ∷ bs) = go (eqb b 32) (first-field bs)
 
 -- a test of a length behind a place, as a test of the whole length
 from-there : (at k n : ℕ) → at ≤ n → leb (k + 1) (n - at) ≡ leb (at + k + 1) n
-from-there at k n inside =
-    ⊎-elim
-    (λ less. lt-leb (k + 1) (n - at) (omega arith) ∙ sym (lt-leb (at + k + 1) n (omega arith)))
-    (λ fits. le-leb (k + 1) (n - at) (omega arith) ∙ sym (le-leb (at + k + 1) n fits))
-    (lt-or-le n (at + k + 1))
+from-there at k n inside = same-test (k + 1) (n - at) (at + k + 1) n (λ h. omega arith) (λ h. omega arith)
 
 behind-there : (line : List ℕ) (at k : ℕ) → at ≤ length line → behind k (drop at line) ≡ fieldsFrom line (at + k + 1)
 unfolding fieldsFrom

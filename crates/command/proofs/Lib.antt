@@ -4,12 +4,10 @@ pub mod Fields
 pub mod Signs
 pub mod Lengths
 pub mod Reading
-pub mod Texts
 pub mod Letters
 pub mod Values
 pub mod Filling
 pub mod Outcomes
-pub mod ShownRows
 pub mod Serving
 pub mod Transcript
 pub mod Examples

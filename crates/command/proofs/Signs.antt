@@ -37,7 +37,3 @@ nothing-less z = +ℤ-idl (negℤ z)
 pub mag-minus : (n h : ℕ) → n ≤ h → 0 < h → mag (negℤ (pos n)) < h
 mag-minus zero h p q = q
 mag-minus (suc n) h p q = omega arith
-
-pub magnitude-small : (z : ℤ) (h : ℕ) → mag z < h → natAbs z ≤ h
-magnitude-small (pos n) h p = omega arith
-magnitude-small (negsuc n) h p = omega arith

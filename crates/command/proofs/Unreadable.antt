@@ -2,7 +2,7 @@
 -- Assumes nothing.
 use mathlib.Core.Path.{_≡_, refl, ap, _∙_}
 use mathlib.Core.Bool.{Bool, true, false, cond}
-use mathlib.Core.List.{List, [], _∷_, _++_}
+use mathlib.Core.List.{List, [], _∷_, _++_, flatMap}
 use mathlib.Core.Logic.{_⊎_, _↔_, ⊎-elim}
 use Prim.Native.Nat.{ℕ, _<_}
 use native.Mathlib.Omega.{arith}
@@ -21,7 +21,7 @@ use Rattle.command.specs.declared.Session.{Session}
 use Rattle.command.specs.declared.Command.{Command}
 use Rattle.command.specs.Decimal.{digitsIn, decimal}
 use Rattle.command.specs.Grammar.{commandOf}
-use Rattle.command.specs.Text.{countText, refusalText, overloadText, answerText, startText, fitText, textOf, rowText, rowsText, rowsOf, tableBy, tableText}
+use Rattle.command.specs.Text.{countText, refusalText, overloadText, answerText, startText, fitText, rowText, rowsText, rowsOf, tableBy, tableText}
 use Rattle.command.specs.Sessions.{Outcome, outcome, answered}
 use Rattle.command.proofs.Digits.{decimal-one}
 use Rattle.command.proofs.Lengths.{count-length}
@@ -56,7 +56,7 @@ fit-other FirstFit.Nowhere small = first-other _ (λ h. omega arith)
 fit-other (FirstFit.Refused why) small = refusal-other why (small why refl)
 
 rows-other : (rows : List RowRecord) (n : ℕ) → ¬ (rowsText rows ++ countText 69 n ≡ r-11)
-unfolding textOf rowText countText
+unfolding flatMap rowText countText
 rows-other [] n e = first-other _ (λ h. omega arith) e
 rows-other (r ∷ rows) n e = omega (arith, simp length-append at (ap length e))
 

@@ -1,9 +1,8 @@
 -- The text of answers: decimal numbers with their sign, single spaces, one line feed a line.
-use mathlib.Core.List.{List, [], _∷_, _++_}
-use Prim.Native.Nat.{ℕ, _<_}
+use mathlib.Core.List.{List, [], _∷_, _++_, flatMap}
+use Prim.Native.Nat.{ℕ}
 use lib.IntN.{ℤ}
-use lib.ListN.{take, getD}
-use Rattle.time_table.specs.Held.{Held}
+use lib.ListN.{take}
 use Rattle.planner.specs.declared.RowRecord.{RowRecord}
 use Rattle.planner.specs.declared.Refusal.{Refusal}
 use Rattle.planner.specs.declared.Checked.{Checked}
@@ -11,7 +10,7 @@ use Rattle.planner.specs.declared.Answer.{Answer}
 use Rattle.planner.specs.declared.FirstFit.{FirstFit}
 use Rattle.planner.specs.declared.Rows.{Rows}
 use Rattle.planner.specs.Refusals.{numberOf}
-use Rattle.planner.specs.Records.{noRecord}
+use Rattle.planner.specs.Shown.{idsOf}
 use Rattle.command.specs.Decimal.{decimal, signedText}
 
 -- a text after a space
@@ -48,27 +47,19 @@ fitText (FirstFit.Start z) = startText z
 fitText FirstFit.Nowhere = letterText 78
 fitText (FirstFit.Refused why) = refusalText why
 
--- the texts of some things, one behind the other
-unfoldable pub textOf : {A : Type 0} → (A → List ℕ) → List A → List ℕ
-textOf f [] = []
-textOf f (x ∷ xs) = f x ++ textOf f xs
-
 -- a row as start, end, height and the ids in list order
 abbrev pub idText : ℕ → List ℕ
 idText i = spaced (decimal i)
 
-abbrev pub idsOf : RowRecord → List ℕ
-idsOf r = take (r .count) (r .ids)
-
 abbrev pub idsText : List ℕ → List ℕ
-idsText ids = textOf idText ids
+idsText ids = flatMap idText ids
 
 unfoldable pub rowText : RowRecord → List ℕ
 rowText r =
     signedText (r .start) ++ spaced (signedText (r .end)) ++ spaced (decimal (r .height)) ++ idsText (idsOf r) ++ 10 ∷ []
 
 abbrev pub rowsText : List RowRecord → List ℕ
-rowsText rows = textOf rowText rows
+rowsText rows = flatMap rowText rows
 
 abbrev pub rowsOf : Rows → List RowRecord
 rowsOf rows = take (rows .count) (rows .rows)
@@ -84,11 +75,3 @@ tableText rows = tableBy (rows .answer) rows
 -- no answer is longer
 abbrev pub longest : ℕ
 longest = 51300
-
--- a row whose array holds its ids, and rows whose arrays hold them
-abbrev pub heldIds : RowRecord → Type 0
-heldIds r = Held 32 0 (r .ids) (r .count) (idsOf r)
-
-pub record Shown (rows : Rows) : Type 0 where
-  pub held : Held 128 noRecord (rows .rows) (rows .count) (rowsOf rows)
-  pub ids : (i : ℕ) → i < rows .count → heldIds (getD (rows .rows) i noRecord)

@@ -9,18 +9,14 @@ use Prim.Native.Nat.{ℕ, _+_, _≤_, _<_, max}
 use native.Mathlib.Omega.{arith}
 use Rattle.time_table.specs.declared.Row.{Row}
 use Rattle.time_table.specs.Order.{Ordered}
-use Rattle.time_table.specs.Meaning.{summed, heightAt}
+use Rattle.time_table.specs.Meaning.{summed}
 use Rattle.time_table.proofs.Sums.{has-in, has-below, has-above, by-place, lt-or-le}
 use Rattle.time_table.proofs.AtRow.{summed-before}
 use Rattle.fit.specs.declared.Asked.{Asked}
 use Rattle.fit.specs.declared.Fit.{Fit}
-use Rattle.fit.specs.Fits.{seen, heightSeen, Fits, IsFit, IsFirst, NoFit, IsFirstFit}
+use Rattle.fit.specs.Fits.{seen, Fits, IsFit, IsFirst, NoFit, IsFirstFit}
 use Rattle.fit.specs.FirstFit.{moved, settled, noneFound, firstFit}
 use Rattle.fit.proofs.Candidate.{moved-after, moved-before, moved-under, moved-behind, by-row, settled-grows, settled-before, answer-found, answer-none, over-none, room-some}
-
--- the height that a task sees is the table's
-pub height-seen : (asked : Asked) (t : ℕ) (rows : List Row) → heightSeen asked t rows ≡ heightAt t rows
-height-seen asked t rows = refl
 
 -- the two kinds of answer
 none-is : {rows : List Row} {capacity : ℕ} {asked : Asked} → NoFit rows capacity asked → IsFirstFit rows capacity asked noneFound

@@ -2,15 +2,14 @@
 -- Assumes nothing.
 use mathlib.Core.Path.{_≡_, sym, ap, _∙_}
 use mathlib.Core.List.{_∷_}
-use Prim.Native.Nat.{ℕ, suc, _+_, _≤_, _<_, _^_}
+use Prim.Native.Nat.{ℕ, _+_, _≤_, _<_, _^_}
 use native.Mathlib.Omega.{arith}
-use native.Mathlib.Numerals.{add-one}
-use lib.ListN.{length, drop, drop-of-length-le}
+use lib.ListN.{drop}
 use Rattle.time_table.specs.declared.Table.{Table}
-use Rattle.time_table.specs.Rows.{rowsOf, rowAt, Clean}
+use Rattle.time_table.specs.Rows.{rowsOf, rowAt, noRow, Clean}
 use Rattle.time_table.specs.Order.{Ordered, ticks, Arranged}
 use Rattle.time_table.proofs.Orders.{ordered-from}
-use Rattle.time_table.proofs.Stretch.{next}
+use Rattle.time_table.proofs.Held.{held-next, held-end}
 use Rattle.fit.specs.declared.Asked.{Asked}
 use Rattle.fit.specs.Fits.{seen}
 use Rattle.fit.specs.FirstFit.{moved, settled, answer, firstFit}
@@ -34,13 +33,11 @@ module _ {asked : Asked} {capacity : ℕ} {t : Table} {start at : ℕ} (p : Pass
 
   pub pass-ends : t .count ≤ at → answer asked start ≡ firstFit asked capacity (rowsOf t)
   unfolding settled
-  pass-ends h =
-      let past : length (rowsOf t) ≤ at = omega (arith, p .clean .counts) in
-      sym (rw (drop-of-length-le (rowsOf t) past) at (p .left))
+  pass-ends h = sym (rw (held-end (p .clean) at h) at (p .left))
 
   module _ (lt : at < t .count) where
-    split : Ordered ticks 0 (rowAt (t .rows) at ∷ drop (suc at) (rowsOf t))
-    split = rw (next t at (p .clean) lt) at (p .ordered)
+    split : Ordered ticks 0 (rowAt (t .rows) at ∷ drop (at + 1) (rowsOf t))
+    split = rw (held-next (p .clean) noRow at lt) at (p .ordered)
 
     pub row-ends : rowAt (t .rows) at .end + 1 < 2 ^ 32
     unfolding Ordered
@@ -50,17 +47,17 @@ module _ {asked : Asked} {capacity : ℕ} {t : Table} {start at : ℕ} (p : Pass
     pub pass-stops : start + asked .run ≤ rowAt (t .rows) at .start → answer asked start ≡ firstFit asked capacity (rowsOf t)
     unfolding Ordered
     pass-stops h =
-        let rest = settled-before asked capacity ticks (rowAt (t .rows) at .start) start (rowAt (t .rows) at ∷ drop (suc at) (rowsOf t)) (omega arith, split .1, split .2, split .3) h in
-        sym (p .left ∙ ap (answer asked) (rw (next t at (p .clean) lt) rest))
+        let rest = settled-before asked capacity ticks (rowAt (t .rows) at .start) start (rowAt (t .rows) at ∷ drop (at + 1) (rowsOf t)) (omega arith, split .1, split .2, split .3) h in
+        sym (p .left ∙ ap (answer asked) (rw (held-next (p .clean) noRow at lt) rest))
 
     passed : Passing asked capacity t (moved asked capacity start (rowAt (t .rows) at)) (at + 1)
     unfolding Ordered settled
     passed =
         record {
           clean = p .clean;
-          ordered = rw (add-one at) (ordered-from ticks 0 (rowAt (t .rows) at .end + 1) (drop (suc at) (rowsOf t)) (omega arith) (split .3));
+          ordered = ordered-from ticks 0 (rowAt (t .rows) at .end + 1) (drop (at + 1) (rowsOf t)) (omega arith) (split .3);
           within = omega arith;
-          left = rw (add-one at) (rw (next t at (p .clean) lt) at (p .left));
+          left = rw (held-next (p .clean) noRow at lt) at (p .left);
         }
 
     -- a row that is not too high is passed over, and so is one that ends before the candidate; any other moves it

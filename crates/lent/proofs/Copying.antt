@@ -1,25 +1,19 @@
 -- A copy of rows to a slice, place by place: the slice keeps its length, its first places hold the rows, and its other places hold what they held.
 -- Assumes nothing.
 use mathlib.Core.Path.{_≡_, refl, sym, _∙_, subst}
-use mathlib.Core.Bool.{Bool, true, false, cond}
-use mathlib.Core.List.{List, [], map}
+use mathlib.Core.Bool.{Bool, true, false}
+use mathlib.Core.List.{List}
 use mathlib.Core.Logic.{⊎-elim}
 use Prim.Native.Nat.{ℕ, zero, suc, _≤_, _<_, zero-le}
 use native.Mathlib.Nat.{eq-or-lt-of-le, le-of-suc-le-suc, not-suc-le-zero, le-trans, le-suc, le-refl, lt-irrefl}
-use native.Mathlib.Omega.{arith}
 use lib.Dec.{T, leb, leb→le}
-use lib.ListN.{length, getD, length-set, length-map}
+use lib.ListN.{length, getD, length-set}
 use lib.Seq.{getD-set-same, getD-set-other}
-use Rattle.time_table.specs.Rows.{rowsOf}
-use Rattle.planner.specs.declared.Plan.{Plan}
 use Rattle.planner.specs.declared.RowRecord.{RowRecord}
 use Rattle.planner.specs.declared.Rows.{Rows}
 use Rattle.planner.specs.declared.Checked.{Checked}
-use Rattle.planner.specs.declared.Refusal.the-variants.{Stale, ShortSlice}
+use Rattle.planner.specs.declared.Refusal.the-variants.{ShortSlice}
 use Rattle.planner.specs.Checks.{unless, _then_}
-use Rattle.planner.specs.Records.{recordOf}
-use Rattle.planner.specs.Sound.{Sound}
-use Rattle.planner.specs.Questions.{rowsWith, rowsShown}
 use Rattle.lent.specs.Copies.{noRow, copiedBy, copyAnswer, copied}
 
 pub copied-length : (xs : List RowRecord) (n : ℕ) (ys : List RowRecord) → length (copied xs n ys) ≡ length ys
@@ -52,14 +46,3 @@ count-places rows l = by-places (rows .answer) (leb (rows .count) l) (rows .coun
 pub count-rows : (rows : Rows) (l : ℕ) → copyAnswer rows l .count ≤ rows .count
 unfolding copyAnswer
 count-rows rows l = by-places (rows .answer) (leb (rows .count) l) (rows .count) (rows .count) (λ _. le-refl (rows .count))
-
--- a sound plan has at most 128 rows
-few-by : (live : Bool) (l : List RowRecord) → (live ≡ true → length l ≤ 128) → cond live (rowsWith Checked.Accepted l) (rowsWith (Checked.Refused Stale) []) .count ≤ 128
-few-by true l h = h refl
-few-by false l h = zero-le
-
-pub shown-few : (plan : Plan) → Sound plan → rowsShown plan .count ≤ 128
-unfolding rowsShown
-shown-few plan s =
-    few-by (plan .live) (map recordOf (rowsOf (plan .table)))
-    (λ e. let c = s .live e .clean in rw (length-map (rowsOf (plan .table)) recordOf) (omega (arith, c .counts, c .fits)))

@@ -2,6 +2,7 @@ pub mod Says
 pub mod Locals
 pub mod Tests
 pub mod Lent
+pub mod PlanField
 pub mod LentArray
 pub mod Copying
 pub mod CopyGiven

@@ -28,7 +28,7 @@ use Rattle.planner.specs.Answers.{freshPlan, answerOf, shownRow, livePla
 use Rattle.planner.specs.History.{Heard, nothing, accepted}
 use Rattle.planner.specs.Demand.{Exceeds, FirstExceeds, Demanded, Answered}
 use Rattle.planner.proofs.Tests.{by-test}
-use Rattle.planner.proofs.Loading.{tasks-of}
+use Rattle.planner.proofs.Known.{tasks-of}
 use Rattle.planner.proofs.Limits.{sound-sweepable}
 use Rattle.planner.proofs.Answering.{swept-stale-sound, swept-live-sound, live-sound}
 use Rattle.planner.proofs.Fresh.{fresh-sound}

@@ -10,9 +10,9 @@ use Rattle.time_table.specs.declared.Conflict.{Conflict}
 use Rattle.time_table.specs.Rows.{rowsOf, tableOf, rowAt}
 use Rattle.time_table.specs.Overload.{conflictIn}
 use Rattle.time_table.proofs.Edits.{table-self}
-use Rattle.time_table.proofs.Overloaded.{conflict-in}
-use Rattle.sweep.specs.declared.Tasks.{Tasks}
+use Rattle.time_table.proofs.Overloaded.{conflict-row}
 use Rattle.time_table.specs.Meaning.{Right}
+use Rattle.sweep.specs.declared.Tasks.{Tasks}
 use Rattle.sweep.specs.declared.time_table_over_interval.Swept.{Swept}
 use Rattle.sweep.specs.Tasks.{tasksOf, usageOf, runs}
 use Rattle.sweep.specs.Sweep.{sweep, swept}
@@ -39,9 +39,9 @@ module _ (capacity : ℕ) (ts : Tasks) (t : Table) (sound : SoundTasks ts) (live
     -- the row that is shown lies within the instants that a plan can touch
     pub shown-low : k .found ≡ true → (k .row .start < 3000000000) × (k .row .end < 3000000000)
     shown-low f =
-        let w = conflict-in capacity (rowsOf t) (ap (λ (x : Conflict). x .found) (sym e) ∙ f) in
-        let same : k .row ≡ rowAt (rowsOf t) (w .place) = ap (λ (x : Conflict). x .row) e ∙ w .is in
-        rw same (row-low ts sound (rowsOf t) (live .right) (w .place) (w .one-of))
+        let w = conflict-row capacity (rowsOf t) (ap (λ (x : Conflict). x .found) (sym e) ∙ f) in
+        let same : k .row ≡ rowAt (rowsOf t) (w .at) = ap (λ (x : Conflict). x .row) e ∙ w .is in
+        rw same (row-low ts sound (rowsOf t) (live .right) (w .at) (w .within))
 
     pub live-over : (r : RowRecord) → k .found ≡ true → r ≡ recordOf (k .row)
         → _≡_ {A = Updated} (record { answer = Overloaded; row = r; plan = plan }) (livePlan capacity (tasksOf ts) (rowsOf t))
@@ -73,9 +73,9 @@ module _ (capacity : ℕ) (ts : Tasks) (sound : SoundTasks ts) (small : capacity
 
   pub swept-low : s .overloaded ≡ true → (s .row .start < 3000000000) × (s .row .end < 3000000000)
   swept-low f =
-      let w = conflict-in capacity (sweep (tasksOf ts)) (found-is f) in
-      let same : s .row ≡ rowAt (sweep (tasksOf ts)) (w .place) = ap (λ (x : Swept). x .row) e ∙ w .is in
-      rw same (row-low ts sound (sweep (tasksOf ts)) right (w .place) (w .one-of))
+      let w = conflict-row capacity (sweep (tasksOf ts)) (found-is f) in
+      let same : s .row ≡ rowAt (sweep (tasksOf ts)) (w .at) = ap (λ (x : Swept). x .row) e ∙ w .is in
+      rw same (row-low ts sound (sweep (tasksOf ts)) right (w .at) (w .within))
 
   module _ (r : RowRecord) where
     pub swept-over-is : s .overloaded ≡ true → r ≡ recordOf (s .row)

@@ -12,6 +12,7 @@ use lib.IntN.{ℤ, _+ℤ_}
 use lib.Signed.{leZ, ltZ}
 use Rattle.time_table.specs.Meaning.{has}
 use Rattle.time_table.proofs.Sums.{has-in, lt-or-le}
+use Rattle.time_table.proofs.Bits.{both}
 use Rattle.planner.specs.declared.Job.{Job}
 use Rattle.planner.specs.declared.Answer.the-variants.{Fits, Overloaded}
 use Rattle.planner.specs.Instants.{instant, tick, amount, mustRun}
@@ -19,7 +20,6 @@ use Rattle.planner.specs.Answers.{freshPlan}
 use Rattle.planner.specs.History.{Call, Heard, nothing, accepted, outcome, hear, planAfter, heardAfter}
 use Rattle.planner.specs.Demand.{running, drawnAt, Exceeds}
 use Rattle.planner.specs.Cumulative.{StartOf, runsFrom, Starts, one, drawnFrom, Cumulative, AllFixed}
-use Rattle.planner.proofs.Tests.{both}
 use Rattle.planner.proofs.Ticks.{le-instant, instant-le}
 use Rattle.planner.proofs.Running.{AtTick, run-instant, run-at, at-tick}
 use Rattle.planner.proofs.Accepted.{Numbers}

@@ -1,4 +1,4 @@
--- Refusals 2 to 6 are given exactly when document 01 says so: each is read off its row of the table.
+-- Refusals 3 to 6 are given exactly when document 01 says so: each is read off its row of the table.
 -- Assumes nothing.
 use mathlib.Core.Path.{_≡_}
 use mathlib.Core.Bool.{true}
@@ -9,20 +9,13 @@ use lib.IntN.{ℤ}
 use lib.Signed.{ltZ}
 use Rattle.planner.specs.declared.Job.{Job}
 use Rattle.planner.specs.declared.Refusal.{Refusal}
-use Rattle.planner.specs.declared.Refusal.the-variants.{CapacityOutOfRange, BoundOutOfRange, BoundsCrossed, DurationOutOfRange, UsageOutOfRange}
+use Rattle.planner.specs.declared.Refusal.the-variants.{BoundOutOfRange, BoundsCrossed, DurationOutOfRange, UsageOutOfRange}
 use Rattle.planner.specs.declared.Checked.the-variants.{Accepted, Refused}
 use Rattle.planner.specs.Refusals.{numberOf}
-use Rattle.planner.specs.Ranges.{InRange, bounds, durations, usages, capacities}
-use Rattle.planner.specs.Checks.{capacityChecked, boundsChecked, jobChecked}
-use Rattle.planner.specs.Given.{CapacityGiven, capacity-out, BoundsGiven, bound-out, crossed, JobGiven, bounds-refused, duration-out, usage-out}
-use Rattle.planner.proofs.Given.{capacity-exactly, bounds-exactly, job-exactly}
-
--- the capacity
-no-2 : {c : ℤ} → CapacityGiven c (Refused CapacityOutOfRange) → ¬ InRange capacities c
-no-2 (capacity-out out) = out
-
-pub refusal-2 : (c : ℤ) → (capacityChecked c ≡ Refused CapacityOutOfRange) ↔ (¬ InRange capacities c)
-refusal-2 c = (λ h. no-2 (capacity-exactly c _ .0 h), λ out. capacity-exactly c _ .1 (capacity-out out))
+use Rattle.planner.specs.Ranges.{InRange, bounds, durations, usages}
+use Rattle.planner.specs.Checks.{boundsChecked, jobChecked}
+use Rattle.planner.specs.Given.{BoundsGiven, bound-out, crossed, JobGiven, bounds-refused, duration-out, usage-out}
+use Rattle.planner.proofs.Given.{bounds-exactly, job-exactly}
 
 -- start bounds
 no-3 : {e l : ℤ} → BoundsGiven e l (Refused BoundOutOfRange) → (¬ InRange bounds e) ⊎ (¬ InRange bounds l)

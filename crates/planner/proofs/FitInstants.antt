@@ -4,10 +4,10 @@
 use mathlib.Core.Path.{_≡_, refl, sym, ap, _∙_, subst}
 use mathlib.Core.Bool.{Bool, true, false, cond, true≢false, false≢true}
 use mathlib.Core.List.{List, [], _∷_, map}
-use mathlib.Core.Logic.{_↔_, ⊎-elim}
-use Prim.Native.Nat.{ℕ, _+_, _≤_}
+use mathlib.Core.Logic.{_↔_}
+use Prim.Native.Nat.{ℕ, _+_, _≤_, suc}
 use native.Mathlib.Omega.{arith}
-use borrow.Author.Tests.{ltb-true, le-leb, lt-leb, lt-ltb, le-ltb}
+use borrow.Author.Tests.{ltb-true, lt-ltb}
 use lib.Dec.{leb, ltb}
 use lib.IntN.{ℤ, pos, _+ℤ_}
 use lib.Signed.{leZ, ltZ}
@@ -15,7 +15,7 @@ use Rattle.time_table.specs.declared.Row.{Row}
 use Rattle.time_table.specs.Rows.{rowsOf}
 use Rattle.time_table.specs.Order.{ticks}
 use Rattle.time_table.specs.Meaning.{has, summed, heightAt}
-use Rattle.time_table.proofs.Sums.{lt-or-le}
+use Rattle.time_table.proofs.Bits.{same-test}
 use Rattle.sweep.specs.declared.Task.{Task}
 use Rattle.sweep.specs.Tasks.{tasksOf, taskAt, lasts}
 use Rattle.fit.specs.declared.Fit.{Fit}
@@ -38,7 +38,7 @@ use Rattle.planner.proofs.Ids.{has-task}
 
 -- the height at the instant of a tick
 next-test : (a b : ℕ) → ltb a (b + 1) ≡ leb a b
-next-test a b = ⊎-elim (λ h. le-ltb a (b + 1) (omega arith) ∙ sym (lt-leb a b h)) (λ h. lt-ltb a (b + 1) (omega arith) ∙ sym (le-leb a b h)) (lt-or-le b a)
+next-test a b = same-test (suc a) (b + 1) a b (λ h. omega arith) (λ h. omega arith)
 
 pub height-then : (rows : List Row) (s : ℕ) → heightThen (map recordOf rows) (instant s) ≡ heightAt s rows
 unfolding heightThen summed has

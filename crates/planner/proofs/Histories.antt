@@ -23,8 +23,8 @@ use Rattle.planner.specs.declared.Refusal.{Refusal}
 use Rattle.planner.specs.declared.Checked.{Checked}
 use Rattle.planner.specs.declared.Plan.{Plan}
 use Rattle.planner.specs.declared.Updated.{Updated}
-use Rattle.planner.specs.Instants.{tick, amount}
 use Rattle.planner.specs.declared.Refusal.the-variants.{UnknownTask, TooManyRows}
+use Rattle.planner.specs.Instants.{tick, amount}
 use Rattle.planner.specs.Checks.{boundsChecked}
 use Rattle.planner.specs.Updates.{known, bounded, acceptedUpdate}
 use Rattle.planner.specs.Loads.{taskOf, jobsOf, loadChecked, acceptedLoad}
@@ -34,7 +34,8 @@ use Rattle.planner.specs.Answers.{freshPlan, refusedUpdate}
 use Rattle.planner.specs.History.{Call, load, update, withoutPlaces, outcome, Heard, nothing, accepted, hear, lastHeard, planAfter, heardAfter}
 use Rattle.planner.specs.Demand.{Demanded, Answered}
 use Rattle.planner.proofs.Tests.{by-test}
-use Rattle.planner.proofs.Loading.{tasks-of, load-by, load-accepted, loaded-sound}
+use Rattle.planner.proofs.Loading.{load-by, load-accepted, loaded-sound}
+use Rattle.planner.proofs.Known.{tasks-of}
 use Rattle.planner.proofs.Known.{known-true}
 use Rattle.planner.proofs.Updating.{new-sound, new-live, accepted-live, accepted-stale, live-over-full, live-with-room, update-unknown, update-known}
 use Rattle.planner.proofs.Accepted.{capacity-accepted, bounds-accepted}

@@ -10,11 +10,11 @@ pub mod InputOrder
 pub mod Exactly
 pub mod Limits
 pub mod Fresh
-pub mod Mapped
 pub mod Known
 pub mod Answering
 pub mod Updating
 pub mod Asking
+pub mod ShownRows
 pub mod Loading
 pub mod SignedDraws
 pub mod SignedRows

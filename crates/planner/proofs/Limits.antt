@@ -9,8 +9,8 @@ use Prim.Native.Nat.{ℕ, _≤_, _<_, _^_}
 use native.Mathlib.Decide.{ℕ-discrete}
 use native.Mathlib.Omega.{arith}
 use borrow.Author.Tests.{eq-eqb, ne-eqb}
-use lib.ListN.{length, set, length-set, List·getD-eq-default}
-use lib.Seq.{getD-set-same, getD-set-other, take-append-seam}
+use lib.ListN.{length, set, length-set}
+use lib.Seq.{getD-set-same, getD-set-other}
 use Rattle.time_table.specs.declared.Row.{Row}
 use Rattle.time_table.specs.Rows.{rowAt}
 use Rattle.time_table.specs.Meaning.{Right, Within}
@@ -20,19 +20,17 @@ use Rattle.time_table.proofs.Sums.{has-none, has-above, lt-or-le}
 use Rattle.time_table.proofs.Demanded.{demanded}
 use Rattle.sweep.specs.declared.Task.{Task}
 use Rattle.sweep.specs.declared.Tasks.{Tasks}
+use Rattle.sweep.proofs.Covered.{past-none}
 use Rattle.sweep.specs.Tasks.{noTask, tasksOf, tasksWith, taskAt, usageOf, runEnd, inPart, runs, Sweepable}
 use Rattle.planner.specs.Sound.{Limited, SoundTasks}
-
--- no task has an id from the count on
-past : (ts : List Task) (i : ℕ) → length ts ≤ i → taskAt ts i ≡ noTask
-past ts i le = List·getD-eq-default ts noTask le
+use Rattle.planner.proofs.Known.{tasks-of}
 
 module _ (ts : Tasks) (s : SoundTasks ts) where
   by-id : {P : Task → Type 0} → P noTask → ((k : Task) → Limited k → P k) → (i : ℕ) → P (taskAt (tasksOf ts) i)
   by-id {P} none some i =
       ⊎-elim
       (λ lt. some (taskAt (tasksOf ts) i) (s .limited i lt))
-      (λ ge. rw (past (tasksOf ts) i (omega (arith, s .held .counts))) none)
+      (λ ge. rw (past-none (tasksOf ts) i (omega (arith, s .held .counts))) none)
       (lt-or-le i (ts .count))
 
   pub ends : (i : ℕ) → runEnd (taskAt (tasksOf ts) i) ≤ 3000000000
@@ -47,7 +45,7 @@ module _ (ts : Tasks) (s : SoundTasks ts) where
       }
 
   pub sound-few : (i t : ℕ) → ts .count ≤ i → runs (tasksOf ts) i t ≡ false
-  sound-few i t le = rw (past (tasksOf ts) i (omega (arith, s .held .counts))) (has-none 0 0 t (omega arith))
+  sound-few i t le = rw (past-none (tasksOf ts) i (omega (arith, s .held .counts))) (has-none 0 0 t (omega arith))
 
   pub sound-within : Within (runs (tasksOf ts)) (usageOf (tasksOf ts))
   sound-within =
@@ -72,14 +70,11 @@ module _ (ts : Tasks) (s : SoundTasks ts) where
 
 -- a task in the place of another
 module _ (ts : Tasks) (s : SoundTasks ts) (i : ℕ) (lt : i < ts .count) (k : Task) (l : Limited k) where
-  pub replaced-is : set (tasksOf ts) i k ≡ tasksOf (tasksWith (set (tasksOf ts) i k))
-  replaced-is = sym (take-append-seam (set (tasksOf ts) i k) _)
-
   pub replaced-sound : SoundTasks (tasksWith (set (tasksOf ts) i k))
   replaced-sound =
       record {
-        held = held-as (record { is = refl; counts = refl; fits = rw length-set (omega (arith, s .held .counts, s .held .fits)) }) replaced-is;
-        limited = λ j less. rw (← replaced-is)
+        held = held-as (record { is = refl; counts = refl; fits = rw length-set (omega (arith, s .held .counts, s .held .fits)) }) (sym (tasks-of (set (tasksOf ts) i k)));
+        limited = λ j less. rw (tasks-of (set (tasksOf ts) i k))
             (elim (ℕ-discrete j i) [
               | yes e ↦ rw (e, getD-set-same (tasksOf ts) i k noTask (omega (arith, s .held .counts))) l
               | no ne ↦ rw (getD-set-other (tasksOf ts) i j k noTask ne) (s .limited j (omega (arith, simp length-set at less, s .held .counts)))

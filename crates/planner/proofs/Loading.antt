@@ -9,10 +9,10 @@ use borrow.Author.Tests.{ltb-true, leb-true}
 use lib.Dec.{ltb, leb}
 use lib.IntN.{ℤ}
 use lib.ListN.{length, getD, length-map, length-take}
-use lib.Seq.{take-append-seam}
 use Rattle.time_table.proofs.Held.{held-as}
+use Rattle.time_table.proofs.Bits.{both}
 use Rattle.sweep.specs.declared.Task.{Task}
-use Rattle.sweep.specs.Tasks.{noTask, tasksOf, tasksWith, heldTasks, taskAt}
+use Rattle.sweep.specs.Tasks.{noTask, tasksWith, heldTasks, taskAt}
 use Rattle.sweep.specs.Created.{keeps, inOrder, created}
 use Rattle.sweep.proofs.Created.{in-order-low, order-few}
 use Rattle.sweep.proofs.Placed.{get-map, created-at, created-kept, created-length}
@@ -26,14 +26,11 @@ use Rattle.planner.specs.Checks.{unless, _then_, jobChecked, jobsChecked
 use Rattle.planner.specs.Given.{noJob}
 use Rattle.planner.specs.Loads.{jobsOf, taskOf, loadChecked, loadedBy, loaded, Loadable}
 use Rattle.planner.specs.Sound.{Limited, SoundTasks}
-use Rattle.planner.proofs.Tests.{both}
 use Rattle.planner.proofs.Accepted.{job-accepted}
 use Rattle.planner.proofs.InputOrder.{unless-accepted, then-accepted, jobs-accepted}
+use Rattle.planner.proofs.Known.{tasks-of}
 
--- a struct of tasks has those tasks, and is held where they are few
-pub tasks-of : (l : List Task) → tasksOf (tasksWith l) ≡ l
-tasks-of l = take-append-seam l _
-
+-- a struct of few tasks holds them
 pub tasks-held : (l : List Task) → length l ≤ 32 → heldTasks (tasksWith l)
 tasks-held l le = held-as (record { is = refl; counts = refl; fits = le }) (sym (tasks-of l))
 

@@ -3,7 +3,7 @@
 use mathlib.Core.Path.{_≡_, refl, sym, ap, _∙_}
 use mathlib.Core.Bool.{Bool, true, false, _||_, or-true, or-assoc, false≢true}
 use mathlib.Core.List.{List, [], _∷_, _++_, map}
-use mathlib.Core.Logic.{_⊎_, _↔_, inl, inr, ⊎-elim}
+use mathlib.Core.Logic.{_↔_, ⊎-elim}
 use Prim.Native.Nat.{ℕ, zero, suc, _<_, suc-le-suc}
 use native.Mathlib.Nat.{not-suc-le-zero, le-of-suc-le-suc}
 use native.Mathlib.Omega.{arith}
@@ -16,16 +16,13 @@ use Rattle.time_table.specs.Adjustments.{removedParts, addedParts}
 use Rattle.time_table.specs.Insertion.{insertion}
 use Rattle.time_table.specs.Removal.{removal}
 use Rattle.time_table.specs.Update.{after, overAfter, updateOver}
+use Rattle.time_table.proofs.Bits.{either}
 use Rattle.planner.specs.Refused.{Edit, editsOf, editing, OverAfter}
 
 -- the test, over edits
 overIn : List Edit → List Row → Bool
 overIn [] rows = false
 overIn (e ∷ es) rows = ltb 128 (length (e rows)) || overIn es (e rows)
-
-either : (a b : Bool) → (a || b) ≡ true → (a ≡ true) ⊎ (b ≡ true)
-either true b h = inl refl
-either false b h = inr h
 
 over-found : (es : List Edit) (rows : List Row) → overIn es rows ≡ true → OverAfter es rows
 unfolding overIn editing

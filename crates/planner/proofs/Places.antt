@@ -30,7 +30,8 @@ use Rattle.planner.specs.Loads.{jobsOf, taskOf, loadChecked, acceptedLoa
 use Rattle.planner.specs.History.{Heard, load, accepted, keptJobs, heardAfter}
 use Rattle.planner.specs.Places.{inputAt, placeOf, Idle, KnownAs}
 use Rattle.planner.proofs.Tests.{by-test}
-use Rattle.planner.proofs.Loading.{tasks-of, jobs-few, load-by, load-accepted}
+use Rattle.planner.proofs.Known.{tasks-of}
+use Rattle.planner.proofs.Loading.{jobs-few, load-by, load-accepted}
 
 -- the jobs that are not kept are those with usage 0 or duration 0
 amount-none : (z : ℤ) → amount z ≤ 0 → z ≡ pos 0

@@ -5,8 +5,9 @@ use mathlib.Core.Bool.{true, false, true≢false}
 use mathlib.Core.Logic.{⊎-elim}
 use lib.IntN.{ℤ}
 use lib.Signed.{leZ}
+use Rattle.time_table.proofs.Bits.{both}
 use Rattle.planner.specs.Ranges.{Range, inRange, InRange}
-use Rattle.planner.proofs.Tests.{by-test, both}
+use Rattle.planner.proofs.Tests.{by-test}
 
 module _ {r : Range} {z : ℤ} where
   pub range-test : InRange r z → inRange r z ≡ true

@@ -11,13 +11,12 @@ use lib.ListN.{set}
 use Rattle.time_table.specs.declared.Row.{Row}
 use Rattle.time_table.specs.declared.Conflict.{Conflict}
 use Rattle.time_table.specs.Rows.{rowsOf}
-use Rattle.time_table.specs.Overload.{conflictIn}
+use Rattle.time_table.specs.Overload.{conflictIn, NoneOver}
 use Rattle.time_table.proofs.Edits.{rows-of}
+use Rattle.time_table.proofs.Overloaded.{conflict-row, conflict-none-over}
 use Rattle.sweep.specs.declared.Task.{Task}
 use Rattle.sweep.specs.Tasks.{tasksOf}
 use Rattle.sweep.specs.Sweep.{sweep}
-use Rattle.sweep.specs.Sentence.{NoneOver}
-use Rattle.sweep.proofs.Outcome.{conflict-first, conflict-none}
 use Rattle.planner.specs.declared.Jobs.{Jobs}
 use Rattle.planner.specs.declared.Plan.{Plan}
 use Rattle.planner.specs.declared.Refusal.{Refusal}
@@ -32,7 +31,8 @@ use Rattle.planner.specs.Updates.{acceptedUpdate}
 use Rattle.planner.specs.History.{Call, load, update, withoutPlaces, outcome, accepted}
 use Rattle.planner.specs.ShownRow.{FirstShown, Shown}
 use Rattle.planner.proofs.Tests.{by-test}
-use Rattle.planner.proofs.Loading.{tasks-of, load-by}
+use Rattle.planner.proofs.Known.{tasks-of}
+use Rattle.planner.proofs.Loading.{load-by}
 use Rattle.planner.proofs.Updating.{changed, accepted-live, accepted-stale, live-over-full, live-with-room}
 use Rattle.planner.proofs.Agreeing.{answer-over}
 use Rattle.planner.proofs.Liveness.{by-update, live-stays}
@@ -53,11 +53,11 @@ module _ (capacity : ℕ) (rows : List Row) where
       record {
         row = conflictIn capacity rows .row;
         is = ap (λ (b : Bool). cond b (recordOf (conflictIn capacity rows .row)) noRecord) f;
-        first = conflict-first capacity rows f;
+        first = conflict-row capacity rows f;
       }
 
   scan-none : answerOf (conflictIn capacity rows) ≡ Fits → NoneOver capacity rows
-  scan-none e = conflict-none capacity rows (answer-fits (conflictIn capacity rows) e)
+  scan-none e = conflict-none-over capacity rows (answer-fits (conflictIn capacity rows) e)
 
 -- the ways of a call
 live-shown : (capacity : ℕ) (ts : List Task) (rows : List Row) → Shown (livePlan capacity ts rows)

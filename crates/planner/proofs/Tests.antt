@@ -1,9 +1,9 @@
 -- Tests of numbers, plain and signed: a test and its contrary, two tests that hold together.
 -- Assumes nothing.
-use mathlib.Core.Path.{_≡_, refl, sym, _∙_}
-use mathlib.Core.Bool.{Bool, true, false, not, _&&_, true≢false}
+use mathlib.Core.Path.{_≡_, refl}
+use mathlib.Core.Bool.{Bool, true, false, not}
 use mathlib.Core.Logic.{_⊎_, inl, inr, ⊎-elim}
-use Prim.Native.Nat.{ℕ, _≤_, _<_}
+use Prim.Native.Nat.{ℕ}
 use borrow.Author.Tests.{lt-ltb, le-ltb, le-leb, lt-leb}
 use lib.Dec.{leb, ltb}
 use lib.IntN.{ℤ, pos, negsuc}
@@ -13,14 +13,6 @@ use Rattle.time_table.proofs.Sums.{lt-or-le}
 pub by-test : (b : Bool) → (b ≡ true) ⊎ (b ≡ false)
 by-test true = inl refl
 by-test false = inr refl
-
-pub both : (a b : Bool) → (a && b) ≡ true → (a ≡ true) × (b ≡ true)
-both true b h = (refl, h)
-both false b h = absurd (true≢false (sym h))
-
-pub same-test : (a b c d : ℕ) → (a ≤ b → c ≤ d) → (b < a → d < c) → leb a b ≡ leb c d
-same-test a b c d le lt =
-    ⊎-elim (λ h. lt-leb a b h ∙ sym (lt-leb c d (lt h))) (λ h. le-leb a b h ∙ sym (le-leb c d (le h))) (lt-or-le b a)
 
 pub ltb-not : (a b : ℕ) → ltb a b ≡ not (leb b a)
 ltb-not a b = ⊎-elim (λ h. rw (lt-ltb a b h, lt-leb b a h)) (λ h. rw (le-ltb a b h, le-leb b a h)) (lt-or-le a b)

@@ -7,20 +7,13 @@ use Prim.Native.Nat.{ℕ, suc, _+_, _-_, _≤_, _<_}
 use native.Mathlib.Omega.{arith}
 use borrow.Author.Tests.{leb-true, lt-ltb, le-ltb, le-leb, lt-leb}
 use lib.Dec.{leb, ltb}
-use lib.IntN.{ℤ, pos, negsuc, negℤ, natAbs, _+ℤ_, _-ℤ_, +ℤ-assoc, +ℤ-comm, +ℤ-negℤ-cancel, -ℤ-+ℤ-cancel}
+use lib.IntN.{ℤ, pos, negsuc, negℤ, _+ℤ_, _-ℤ_, +ℤ-assoc, +ℤ-comm, +ℤ-negℤ-cancel}
 use lib.Signed.{leZ, ltZ, mag}
 use Rattle.time_table.proofs.Sums.{lt-or-le}
+use Rattle.time_table.proofs.Bits.{same-test}
 use Rattle.planner.specs.Ranges.{bounds}
 use Rattle.planner.specs.Instants.{instant, tick}
-use Rattle.planner.proofs.Tests.{same-test, ltb-not, ltZ-not}
-
--- there and back
-pub tick-instant : (t : ℕ) → tick (instant t) ≡ t
-unfolding tick instant
-tick-instant t = ap natAbs (-ℤ-+ℤ-cancel (pos t) (pos 1000000000))
-
-pub instant-injective : (a b : ℕ) → instant a ≡ instant b → a ≡ b
-instant-injective a b e = sym (tick-instant a) ∙ ap tick e ∙ tick-instant b
+use Rattle.planner.proofs.Tests.{ltb-not, ltZ-not}
 
 pub tick-sum : (z : ℤ) → leZ (bounds .lo) z ≡ true → z +ℤ pos 1000000000 ≡ pos (tick z)
 unfolding tick

@@ -26,13 +26,14 @@ use Rattle.sweep.specs.declared.Task.{Task}
 use Rattle.sweep.specs.declared.Tasks.{Tasks}
 use Rattle.sweep.specs.Tasks.{noTask, tasksOf, tasksWith, taskAt, usageOf, partOf, inPart, runs}
 use Rattle.planner.specs.declared.Plan.{Plan}
-use Rattle.planner.specs.Sound.{Limited, SoundTasks, Live, Sound}
 use Rattle.planner.specs.declared.Refusal.the-variants.{UnknownTask, TooManyRows}
 use Rattle.planner.specs.declared.Checked.{Checked}
+use Rattle.planner.specs.Sound.{Limited, SoundTasks, Live, Sound}
 use Rattle.planner.specs.Checks.{unless, _then_, boundsChecked}
 use Rattle.planner.specs.Answers.{livePlan, refusedUpdate}
 use Rattle.planner.specs.Updates.{known, updateChecked, bounded, liveUpdate, staleUpdate, acceptedUpdate, updatedBy, updated}
-use Rattle.planner.proofs.Limits.{ends, sound-within, replaced-is, replaced-sound, replaced-runs, replaced-usage}
+use Rattle.planner.proofs.Limits.{ends, sound-within, replaced-sound, replaced-runs, replaced-usage}
+use Rattle.planner.proofs.Known.{tasks-of}
 
 module _ (plan : Plan) (s : Sound plan) (i e l : ℕ) (lt : i < plan .tasks .count) (order : e ≤ l) (top : l ≤ 2000000000) where
   abbrev old : Task
@@ -52,9 +53,6 @@ module _ (plan : Plan) (s : Sound plan) (i e l : ℕ) (lt : i < plan .tasks .cou
 
   pub new-sound : SoundTasks (tasksWith (set (tasksOf (plan .tasks)) i new))
   new-sound = replaced-sound (plan .tasks) (s .tasks) i lt new new-limited
-
-  pub new-tasks : tasksOf (tasksWith (set (tasksOf (plan .tasks)) i new)) ≡ set (tasksOf (plan .tasks)) i new
-  new-tasks = sym (replaced-is (plan .tasks) (s .tasks) i lt new new-limited)
 
   pub updatable : plan .live ≡ true → Updatable (partOf i old) (partOf i new) (plan .table)
   updatable live =
@@ -82,7 +80,7 @@ module _ (plan : Plan) (s : Sound plan) (i e l : ℕ) (lt : i < plan .tasks .cou
       let right : Right (runs (set (tasksOf (plan .tasks)) i new)) (usageOf (set (tasksOf (plan .tasks)) i new)) rows =
       rw (replaced-runs (plan .tasks) (s .tasks) i lt new new-limited, replaced-usage (plan .tasks) (s .tasks) i lt new new-limited refl)
       (updated-right (partOf i old) (partOf i new) (plan .table) (updatable live)) in
-      rw (fits .is) (record { clean = clean-of rows (fits .few); right = rw (rows-of rows, new-tasks) right })
+      rw (fits .is) (record { clean = clean-of rows (fits .few); right = rw (rows-of rows, (tasks-of _)) right })
 
 -- the cases of an accepted update
 module _ (plan : Plan) (i e l : ℕ) where
@@ -123,7 +121,7 @@ module _ (plan : Plan) (s : Sound plan) (i e l : ℕ) (lt : i < plan .tasks .cou
   stored-sound = rw stored-is (new-sound plan s i e l lt order top)
 
   pub stored-tasks : tasksOf stored ≡ set (tasksOf (plan .tasks)) i (new plan s i e l lt order top)
-  stored-tasks = ap tasksOf stored-is ∙ new-tasks plan s i e l lt order top
+  stored-tasks = ap tasksOf stored-is ∙ tasks-of _
 
   -- the answer of an edit of a live table
   module _ (live : plan .live ≡ true) (r : Edited)

@@ -10,6 +10,7 @@ pub mod Answers
 pub mod Loads
 pub mod Updates
 pub mod Questions
+pub mod Shown
 pub mod History
 pub mod Demand
 pub mod Cumulative

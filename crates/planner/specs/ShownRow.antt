@@ -6,9 +6,9 @@ use mathlib.Core.List.{List}
 use Prim.Native.Nat.{ℕ}
 use Rattle.time_table.specs.declared.Row.{Row}
 use Rattle.time_table.specs.Rows.{rowsOf}
+use Rattle.time_table.specs.Overload.{FirstOver, NoneOver}
 use Rattle.sweep.specs.Tasks.{tasksOf}
 use Rattle.sweep.specs.Sweep.{sweep}
-use Rattle.sweep.specs.Sentence.{FirstOver, NoneOver}
 use Rattle.planner.specs.declared.RowRecord.{RowRecord}
 use Rattle.planner.specs.declared.Answer.the-variants.{Fits, Overloaded}
 use Rattle.planner.specs.declared.Updated.{Updated}

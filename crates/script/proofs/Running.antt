@@ -1,7 +1,7 @@
 -- A run, command by command: what the script has from a place on is answered by the command there, and then by what follows the command.
 -- Assumes nothing.
 use mathlib.Core.Path.{_≡_, refl, sym, ap, _∙_, subst}
-use mathlib.Core.Bool.{Bool, true, false, cond, _&&_, true≢false}
+use mathlib.Core.Bool.{Bool, true, false, cond, _&&_}
 use mathlib.Core.List.{List, [], _∷_, _++_}
 use Prim.Native.Nat.{ℕ, zero, suc, _+_, _-_, _≤_, _<_}
 use native.Mathlib.Omega.{arith}
@@ -10,13 +10,14 @@ use lib.Dec.{eqb, leb}
 use lib.IntN.{ℤ, pos}
 use lib.ListN.{length, drop, getD, length-drop}
 use lib.Seq.{drop-cons, drop-drop}
+use Rattle.time_table.proofs.Bits.{both}
+use Rattle.planner.specs.declared.Jobs.{Jobs}
+use Rattle.planner.specs.declared.Plan.{Plan}
+use Rattle.planner.specs.Sound.{Sound}
 use Rattle.script.specs.declared.Command.{Command}
 use Rattle.script.specs.declared.Command.the-variants.{Call, Ask}
 use Rattle.script.specs.declared.Call.the-variants.{Load, Update}
 use Rattle.script.specs.declared.Ask.the-variants.{Keep, FirstFit, Rows, Unreadable}
-use Rattle.planner.specs.declared.Jobs.{Jobs}
-use Rattle.planner.specs.declared.Plan.{Plan}
-use Rattle.planner.specs.Sound.{Sound}
 use Rattle.script.specs.Commands.{commandWith, commandOf, argumentsOf}
 use Rattle.script.specs.Pages.{Page, puts}
 use Rattle.script.specs.Sessions.{keptAfter, planAfter, said}
@@ -81,10 +82,6 @@ module _ (script : List ℤ) (at : ℕ) (inside : at < length script) where
       ∙ ap (puts next) (after plan' jobs' found n (taken ∙ ap (λ (x : Command). argumentsOf x (length script - at - 1)) (answered .again)))
 
 -- a command takes no more numbers than there are
-and-right : (a b : Bool) → (a && b) ≡ true → b ≡ true
-and-right true b e = e
-and-right false b e = absurd (true≢false (sym e))
-
 picked : (test : Bool) (c d : Command) (most : ℕ) → (test ≡ true → argumentsOf c most ≤ most) → argumentsOf d most ≤ most → argumentsOf (cond test c d) most ≤ most
 picked true c d most here other = here refl
 picked false c d most here other = other
@@ -93,7 +90,7 @@ whole : (kind wanted numbers most : ℕ) (c d : Command) → argumentsOf c most 
     → argumentsOf (cond (eqb kind wanted && leb numbers (most + 1)) c d) most ≤ most
 whole kind wanted numbers most c d few other =
     picked (eqb kind wanted && leb numbers (most + 1)) c d most
-    (λ e. omega (arith, leb-true numbers (most + 1) (and-right (eqb kind wanted) (leb numbers (most + 1)) e))) other
+    (λ e. omega (arith, leb-true numbers (most + 1) (both (eqb kind wanted) (leb numbers (most + 1)) e .1))) other
 
 takes : (kind most : ℕ) (a b c d : ℤ) → argumentsOf (commandWith kind (most + 1) a b c d) most ≤ most
 unfolding commandWith

@@ -1,11 +1,11 @@
 -- The numbers of an answer: 0 fits; 1 start end height, overloaded; 2 number, refused; 3 start; 4 nowhere;
 -- 5 count and then the rows, each as start end height count ids.
 use mathlib.Core.Bool.{cond}
-use mathlib.Core.List.{List, [], _∷_, _++_, map}
-use Prim.Native.Nat.{ℕ, min, _≤_, _<_}
+use mathlib.Core.List.{List, [], _∷_, map, flatMap}
+use Prim.Native.Nat.{ℕ, min}
 use lib.Dec.{ltb}
 use lib.IntN.{ℤ, pos}
-use lib.ListN.{take, getD}
+use lib.ListN.{take}
 use Rattle.planner.specs.declared.Plan.{Plan}
 use Rattle.planner.specs.declared.Refusal.{Refusal}
 use Rattle.planner.specs.declared.Refusal.the-variants as refusal
@@ -32,9 +32,8 @@ abbrev pub rowNumbers : RowRecord → List ℤ
 rowNumbers r = r .start ∷ r .end ∷ signedOf (r .height) ∷ signedOf (r .count) ∷ map signedOf (take (r .count) (r .ids))
 
 -- the numbers of one row after those of another
-unfoldable pub each : List RowRecord → List ℤ
-each [] = []
-each (r ∷ rs) = rowNumbers r ++ each rs
+abbrev pub each : List RowRecord → List ℤ
+each rows = flatMap rowNumbers rows
 
 -- the rows, or why they are refused
 abbrev pub shownNumbers : Checked → ℕ → List RowRecord → List ℤ
@@ -66,8 +65,3 @@ askNumbers plan count (Keep job) = keepNumbers count
 askNumbers plan count (FirstFit id) = fitNumbers (fitOf plan id)
 askNumbers plan count Rows = rowsNumbers (rowsShown plan)
 askNumbers plan count Unreadable = refusalNumbers refusal.Unreadable
-
--- rows that a table can have
-pub record Shown (shown : planner.Rows) : Type 0 where
-  pub few : shown .count ≤ 128
-  pub lists : (d : RowRecord) (i : ℕ) → i < shown .count → getD (shown .rows) i d .count ≤ 32

@@ -8,13 +8,13 @@ use Prim.Native.Nat.{ℕ, zero, suc, _≤_, _<_}
 use native.Mathlib.Omega.{arith}
 use lib.Dec.{ltb}
 use lib.ListN.{length, List·getD-eq-default}
-use Rattle.time_table.specs.Meaning.{has, total, occurs}
+use Rattle.time_table.specs.Meaning.{has, occurs}
 use Rattle.time_table.proofs.Sums.{has-in, has-below, has-above, has-none, lt-or-le}
 use Rattle.sweep.specs.declared.Task.{Task}
-use Rattle.sweep.specs.Tasks.{noTask, taskAt, latestOf, usageOf, runEnd, inPart, runs}
+use Rattle.sweep.specs.Tasks.{noTask, taskAt, latestOf, runEnd, inPart, runs}
 use Rattle.sweep.specs.Ordering.{ordered, InTurn, In, Sorted}
-use Rattle.sweep.specs.Sweep.{idsAt, loadAt, cuts}
-use Rattle.sweep.proofs.Ordered.{ordered-in, ordered-out, ordered-length, ordered-sum, ordered-sorted, sorted-unique, by-key}
+use Rattle.sweep.specs.Sweep.{idsAt, cuts}
+use Rattle.sweep.proofs.Ordered.{ordered-in, ordered-out, ordered-length, ordered-sorted, sorted-unique, by-key}
 use Rattle.sweep.proofs.Cuts.{Full, full-or, cuts-both, CutOf, cuts-of}
 
 -- i comes before j, by its latest start
@@ -70,11 +70,6 @@ module _ (ts : List Task) where
   -- no other list has the covering tasks in their turn
   pub ids-unique : (t : ℕ) (is : List ℕ) → Sorted (InTurn (sooner ts)) is → ((i : ℕ) → occurs i is ≡ cond (runs ts i t) 1 0) → is ≡ idsAt ts t
   ids-unique t is s h = sorted-unique (sooner ts) (by-key (latestOf ts)) is (idsAt ts t) s (ids-sorted t) (λ i. h i ∙ sym (ids-occur t i))
-
-  -- the sum of their usages is the load
-  pub load-sum : (t : ℕ) → total (usageOf ts) (idsAt ts t) ≡ loadAt ts t
-  unfolding idsAt loadAt
-  load-sum t = ordered-sum _ _ (usageOf ts) (length ts)
 
   ids-empty : (t : ℕ) → ((i : ℕ) → runs ts i t ≡ false) → idsAt ts t ≡ []
   unfolding idsAt

@@ -4,6 +4,7 @@ use mathlib.Core.Path.{_≡_, refl}
 use mathlib.Core.Bool.{Bool, true, false, cond}
 use mathlib.Core.Logic.{_⊎_, inl, inr, ⊎-elim}
 use mathlib.Core.List.{List, [], _∷_}
+use mathlib.Core.List.{List·Memᴰ·not-nil as in-none}
 use Prim.Native.Nat.{ℕ, zero, suc, _+_, _≤_, _<_}
 use native.Mathlib.Nat.{not-suc-le-zero}
 use native.Mathlib.Decide.{ℕ-discrete}
@@ -16,7 +17,6 @@ use Rattle.sweep.specs.declared.Task.{Task}
 use Rattle.sweep.specs.Tasks.{taskAt, latestOf, runEnd}
 use Rattle.sweep.specs.Ordering.{In, here, there}
 use Rattle.sweep.specs.Sweep.{insertCut, cutsBelow}
-use Rattle.sweep.proofs.Inserted.{in-none}
 
 -- ascending, from lo on
 pub data Asc : ℕ → List ℕ → Type 0 where

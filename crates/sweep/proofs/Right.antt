@@ -2,7 +2,7 @@
 -- other; so the edits go on from it. Its height at every instant is the load.
 -- Assumes nothing.
 use mathlib.Core.Path.{_≡_, refl, sym, ap, _∙_}
-use mathlib.Core.Bool.{Bool, true, false, cond}
+use mathlib.Core.Bool.{cond}
 use mathlib.Core.Logic.{⊎-elim}
 use mathlib.Core.List.{List, [], _∷_}
 use Prim.Native.Nat.{ℕ, _+_, _≤_, _<_, _^_}
@@ -12,14 +12,14 @@ use lib.ListN.{length}
 use Rattle.time_table.specs.declared.Row.{Row}
 use Rattle.time_table.specs.Rows.{tasks}
 use Rattle.time_table.specs.Order.{Each, Ordered, ticks}
-use Rattle.time_table.specs.Meaning.{summed, total, occurs, tally, heightAt, Sound, Right, Within}
-use Rattle.time_table.proofs.Sums.{has-in, has-below, has-above, has-none, by-place, lt-or-le}
+use Rattle.time_table.specs.Meaning.{summed, total, occurs, tally, Sound, Right}
+use Rattle.time_table.proofs.Sums.{has-in, has-below, has-above, by-place, lt-or-le}
 use Rattle.sweep.specs.declared.Task.{Task}
-use Rattle.sweep.specs.Tasks.{taskAt, latestOf, usageOf, runEnd, inPart, runs}
-use Rattle.sweep.specs.Sweep.{idsAt, loadAt, cuts, sweep}
+use Rattle.sweep.specs.Tasks.{taskAt, usageOf, runEnd, runs}
+use Rattle.sweep.specs.Sweep.{idsAt, cuts, sweep}
 use Rattle.sweep.proofs.Runs.{Run, Runs, done, more}
-use Rattle.sweep.proofs.Cuts.{Full, full-or, cuts-of}
-use Rattle.sweep.proofs.Covered.{past-none, full-low, ids-occur, ids-few, ids-after, load-sum}
+use Rattle.sweep.proofs.Cuts.{cuts-of}
+use Rattle.sweep.proofs.Covered.{ids-occur, ids-few, ids-after}
 use Rattle.sweep.proofs.Swept.{sweep-runs}
 
 module _ (ts : List Task) where
@@ -46,14 +46,10 @@ module _ (ts : List Task) where
         (λ l h. rw (has-in (r .start) (r .end + 1) t l h, u .same t l (omega arith)) (omega (arith, by lo r u, none-low F t rs v (omega arith))))
         (λ h. rw (has-above (r .start) (r .end + 1) t h) (omega (arith, runs-summed t rs v (omega arith))))
 
-  -- each covering task is listed once at t, and no other; the height there is the load
+  -- each covering task is listed once at t, and no other
   pub sweep-tally : (t i : ℕ) → tally t i (sweep ts) ≡ cond (runs ts i t) 1 0
   unfolding total
   sweep-tally t i = runs-summed (λ (r : Row). occurs i (tasks r)) (occurs i) (λ lo r u. refl) refl t (sweep ts) (sweep-runs ts) (omega arith) ∙ ids-occur ts t i
-
-  pub sweep-height : (t : ℕ) → heightAt t (sweep ts) ≡ loadAt ts t
-  unfolding total
-  sweep-height t = runs-summed (λ (r : Row). r .height) (total (usageOf ts)) (λ lo r u. u .high) refl t (sweep ts) (sweep-runs ts) (omega arith) ∙ load-sum ts t
 
   module _ (few : length ts ≤ 32) (ends : (i : ℕ) → runEnd (taskAt ts i) < 2 ^ 32) where
     -- no task covers an instant from the last tick on
@@ -94,18 +90,3 @@ module _ (ts : List Task) where
     pub sweep-right : Right (runs ts) (usageOf ts) (sweep ts)
     sweep-right =
         record { ordered = runs-ordered (sweep ts) (sweep-runs ts); sound = runs-sound (sweep ts) (sweep-runs ts); exact = sweep-tally }
-
-  -- tasks that draw something can be in a table
-  pub tasks-within : length ts ≤ 32 → ((i : ℕ) → i < length ts → 0 < usageOf ts i) → ((i : ℕ) → usageOf ts i < 2 ^ 27) → Within (runs ts) (usageOf ts)
-  tasks-within few draws small =
-      record {
-        few = λ i t le. ap (λ (k : Task). inPart k t) (past-none ts i (omega arith)) ∙ has-none 0 0 t (omega arith);
-        draws = λ i t c. draws i (full-low ts i (full i t c));
-        small = small;
-      }
-    where
-      clash : {b : Bool} → b ≡ true → b ≡ false → ⊥
-      clash p q = let z : _≡_ {A = ℕ} 0 1 = cc in omega arith
-
-      full : (i t : ℕ) → runs ts i t ≡ true → Full ts i
-      full i t c = ⊎-elim (λ lt. lt) (λ le. absurd (clash c (has-none (latestOf ts i) (runEnd (taskAt ts i)) t le))) (full-or ts i)

@@ -10,9 +10,6 @@ use Rattle.time_table.specs.Rows.{rowOf, tasks}
 use Rattle.time_table.specs.Meaning.{total}
 use Rattle.time_table.proofs.Sums.{lt-or-le}
 
-pub cons-not-nil : {A : Type 0} (x : A) (xs : List A) → x ∷ xs ≡ [] → ⊥
-cons-not-nil x xs e = let z : _≡_ {A = ℕ} 0 1 = cc in omega arith
-
 module _ (f : ℕ → List ℕ) (usage : ℕ → ℕ) where
   -- r is the first run of f from the instant lo on
   pub record Run (lo : ℕ) (r : Row) : Type 0 where

@@ -4,6 +4,7 @@ use mathlib.Core.Path.{_≡_, refl, sym, ap, _∙_, subst}
 use mathlib.Core.Bool.{Bool, true, false, cond}
 use mathlib.Core.Logic.{⊎-elim}
 use mathlib.Core.List.{List, [], _∷_}
+use mathlib.Core.List.{List·Memᴰ·not-nil as in-none}
 use Prim.Native.Nat.{ℕ, suc, _≤_, _<_}
 use native.Mathlib.Omega.{arith}
 use borrow.Author.Tests.{le-ltb, ltb-false}
@@ -16,7 +17,6 @@ use Rattle.sweep.specs.Tasks.{latestOf, usageOf, runs}
 use Rattle.sweep.specs.Ordering.{InTurn, In, here, there, Sorted, nil, cons}
 use Rattle.sweep.specs.Sweep.{idsAt, sweep}
 use Rattle.sweep.specs.Sentence.{Lists, ByLatest, RunRow, Found, Ahead, SweepOf}
-use Rattle.sweep.proofs.Inserted.{in-none}
 use Rattle.sweep.proofs.Ordered.{in-occurs, sorted-map}
 use Rattle.sweep.proofs.Covered.{sooner, ids-occur, ids-sorted, ids-unique}
 use Rattle.sweep.proofs.Runs.{Run, Runs, done, more, runs-unique}

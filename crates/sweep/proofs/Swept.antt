@@ -2,7 +2,8 @@
 -- Assumes nothing.
 use mathlib.Core.Path.{_≡_, refl, sym, ap, _∙_, subst}
 use mathlib.Core.Logic.{_⊎_, inl, inr, ⊎-elim}
-use mathlib.Core.List.{List, [], _∷_}
+use mathlib.Core.List.{List, [], _∷_, cons-ne-nil}
+use mathlib.Core.List.{List·Memᴰ·not-nil as in-none}
 use Prim.Native.Nat.{ℕ, zero, suc, _+_, _-_, _*_, _≤_, _<_}
 use native.Mathlib.Omega.{arith}
 use lib.ListN.{length}
@@ -15,10 +16,9 @@ use Rattle.sweep.specs.declared.Task.{Task}
 use Rattle.sweep.specs.Tasks.{usageOf}
 use Rattle.sweep.specs.Ordering.{In, here, there}
 use Rattle.sweep.specs.Sweep.{idsAt, cuts, laid, rowsFrom, rowsBy, sweep}
-use Rattle.sweep.proofs.Inserted.{in-none}
 use Rattle.sweep.proofs.Cuts.{Asc, nil, cons, asc-low, asc-head, asc-tail, cuts-asc, cuts-length}
 use Rattle.sweep.proofs.Covered.{ids-between, ids-before, ids-after, cut-differs}
-use Rattle.sweep.proofs.Runs.{Run, Runs, done, more, cons-not-nil}
+use Rattle.sweep.proofs.Runs.{Run, Runs, done, more}
 
 module _ (ts : List Task) where
   -- of the cuts, bs are those behind a
@@ -141,7 +141,7 @@ module _ (ts : List Task) where
                 gap = gap;
                 proper = omega (arith, l);
                 same = λ t x y. quiet r t x (omega (arith, l)) ∙ e ∙ sym lists;
-                some = λ z. cons-not-nil i is (sym lists ∙ z);
+                some = λ z. cons-ne-nil i is (sym lists ∙ z);
                 high = ap (total (usageOf ts)) (sym lists);
                 whole = λ j. rowOf a (b - 1) (total (usageOf ts) (i ∷ is)) (sym lists j);
                 ends = λ x. cut-differs ts a b l (r .cut b (here refl)) (sides r) (subst (λ (n : ℕ). f n ≡ tasks row) after x ∙ lists ∙ sym e);

@@ -4,9 +4,8 @@ use mathlib.Core.Bool.{true, cond}
 use mathlib.Core.Path.{_≡_}
 use mathlib.Core.List.{List, []}
 use Prim.Native.Nat.{ℕ, suc, _≤_, _<_}
-use lib.ListN.{length}
 use Rattle.time_table.specs.declared.Row.{Row}
-use Rattle.time_table.specs.Rows.{rowOf, rowAt, tasks}
+use Rattle.time_table.specs.Rows.{rowOf, tasks}
 use Rattle.time_table.specs.Meaning.{total, occurs}
 use Rattle.sweep.specs.declared.Task.{Task}
 use Rattle.sweep.specs.Tasks.{latestOf, usageOf, runs}
@@ -46,15 +45,3 @@ pub record SweepOf (ts : List Task) (rows : List Row) : Type 0 where
   pub each : (r : Row) → In r rows → RunRow ts r
   pub sorted : Sorted Ahead rows
   pub all : (t i : ℕ) → runs ts i t ≡ true → Found t rows
-
--- r is the earliest row that is higher than the capacity
-pub record FirstOver (capacity : ℕ) (rows : List Row) (r : Row) : Type 0 where
-  pub at : ℕ
-  pub within : at < length rows
-  pub is : r ≡ rowAt rows at
-  pub over : capacity < r .height
-  pub first : (k : ℕ) → k < at → rowAt rows k .height ≤ capacity
-
--- no row is higher than the capacity
-abbrev pub NoneOver : ℕ → List Row → Type 0
-NoneOver capacity rows = (k : ℕ) → k < length rows → rowAt rows k .height ≤ capacity

@@ -13,15 +13,11 @@ use Rattle.time_table.specs.Overload.{conflictIn}
 use Rattle.sweep.specs.declared.Task.{Task}
 use Rattle.sweep.specs.declared.time_table_over_interval.Swept.{Swept}
 use Rattle.sweep.specs.Tasks.{taskAt, latestOf, usageOf, runEnd, runs}
-use Rattle.sweep.specs.Ordering.{ordered, sumBelow}
+use Rattle.sweep.specs.Ordering.{ordered}
 
 -- the tasks that cover t, by latest start and then by id
 unfoldable pub idsAt : List Task → ℕ → List ℕ
 idsAt ts t = ordered (λ (i : ℕ). runs ts i t) (λ (i j : ℕ). ltb (latestOf ts i) (latestOf ts j)) (length ts)
-
--- the sum of the usages of the tasks that cover t
-unfoldable pub loadAt : List Task → ℕ → ℕ
-loadAt ts t = sumBelow (λ (i : ℕ). cond (runs ts i t) (usageOf ts i) 0) (length ts)
 
 -- a number at its place among ascending numbers, unless it is there
 unfoldable pub insertCut : ℕ → List ℕ → List ℕ

@@ -1,8 +1,8 @@
 -- Removing the removed parts of an adjustment and then adding the added ones leads from the old part to the new one: after the removals the
 -- task runs where both parts are, and each instant of the new part is there or in one of the added parts.
 -- Assumes nothing.
-use mathlib.Core.Path.{_≡_, refl, sym}
-use mathlib.Core.Bool.{Bool, true, false, cond, _&&_, _||_, not}
+use mathlib.Core.Path.{_≡_, refl, sym, ap}
+use mathlib.Core.Bool.{Bool, true, false, cond, _&&_, _||_, not, and-comm}
 use mathlib.Core.Logic.{⊎-elim}
 use mathlib.Core.List.{List, [], _++_, append-nil}
 use Prim.Native.Nat.{ℕ, _+_, _≤_, _<_}
@@ -15,11 +15,15 @@ use Rattle.time_table.specs.Order.{ticks}
 use Rattle.time_table.specs.Adjustments.{stretch, removedParts, addedParts}
 use Rattle.time_table.specs.Meaning.{Runs, bit, has, Right, Within, With}
 use Rattle.time_table.specs.Update.{moved, updatedRows}
+use Rattle.time_table.specs.Insertion.{insertion}
+use Rattle.time_table.specs.Removal.{removal}
 use Rattle.time_table.proofs.Editing.{Puts, Takes, Steps}
 use Rattle.time_table.proofs.Adjusted.{stretch-none, stretch-some}
 use Rattle.time_table.proofs.Left.{left}
 use Rattle.time_table.proofs.Sums.{has-none, lt-or-le}
-use Rattle.time_table.proofs.Steps.{removals-right, insertions-right}
+use Rattle.time_table.proofs.EditRight.{insertion-right, removal-right}
+use Rattle.time_table.proofs.Steps.{edits-right}
+use Rattle.time_table.proofs.Bits.{bit-le, cond-same}
 
 -- truth values by their count
 same-count : (a b : Bool) → bit a ≡ bit b → a ≡ b
@@ -40,29 +44,15 @@ count-either true false le = omega arith
 count-either false true le = omega arith
 count-either false false le = omega arith
 
-count-swap : (a b : Bool) → bit (a && b) ≡ bit (b && a)
-count-swap true true = refl
-count-swap true false = refl
-count-swap false true = refl
-count-swap false false = refl
-
-count-one : (a : Bool) → bit a ≤ 1
-count-one true = omega arith
-count-one false = omega arith
-
 -- the same tasks but for one, whose part p makes up the difference
 module _ (id : ℕ) (runs : Runs) where
   moved-with : (p : Part) → p .id ≡ id → (small big : ℕ → Bool) → ((t : ℕ) → bit (big t) ≡ bit (small t) + bit (has (p .from) (p .until) t))
       → With p (moved id small runs) (moved id big runs)
   moved-with p e small big more t i = rw e (go (eqb id i))
     where
-      none : (b : Bool) → _≡_ {A = ℕ} (cond b 0 0) 0
-      none true = refl
-      none false = refl
-
       go : (b : Bool) → bit (cond b (big t) (runs i t)) ≡ bit (cond b (small t) (runs i t)) + cond (has (p .from) (p .until) t) (bit b) 0
       go true = more t
-      go false = rw (none (has (p .from) (p .until) t)) (sym (add-zero _))
+      go false = rw (cond-same {A = ℕ} (has (p .from) (p .until) t) 0) (sym (add-zero _))
 
   pub moved-within : (usage : ℕ → ℕ) (b : ℕ → Bool) → id < 32 → 0 < usage id → Within runs usage → Within (moved id b runs) usage
   moved-within usage b task draws within = record { few = few; draws = some; small = within .small }
@@ -142,9 +132,9 @@ module _ (id : ℕ) (runs : Runs) (usage : ℕ → ℕ) (task : id < 32) (draws 
       let n : ℕ → Bool = has (new .from) (new .until) in
       let o : ℕ → Bool = has (old .from) (old .until) in
       let mid : ℕ → Bool = λ t. both old new t || has (l .a) (l .b) t in
-      let turned : (t : ℕ) → bit (both old new t) ≡ bit (n t && o t) = λ t. count-swap (o t) (n t) in
+      let turned : (t : ℕ) → bit (both old new t) ≡ bit (n t && o t) = λ t. ap bit (and-comm (o t) (n t)) in
       let first : (t : ℕ) → bit (mid t) ≡ bit (both old new t) + bit (has (l .a) (l .b) t) =
-      λ t. count-either (both old new t) (has (l .a) (l .b) t) (omega (arith, l .counts t, turned t, count-one (n t))) in
+      λ t. count-either (both old new t) (has (l .a) (l .b) t) (omega (arith, l .counts t, turned t, bit-le (n t))) in
       rw (l .is, ← (append-nil (stretch new (l .c) (l .d))))
       (stretch-put id runs usage task draws within new is draw (l .a) (l .b) (both old new) mid _ _ (omega (arith, l .first)) first
       (stretch-put id runs usage task draws within new is draw (l .c) (l .d) mid n [] _ (omega (arith, l .second))
@@ -154,8 +144,8 @@ module _ (id : ℕ) (runs : Runs) (usage : ℕ → ℕ) (task : id < 32) (draws 
   pub adjusted-right : (rows : List Row) → Right (moved id (has (old .from) (old .until)) runs) usage rows
       → Right (moved id (has (new .from) (new .until)) runs) usage (updatedRows old new rows)
   adjusted-right rows right =
-      insertions-right usage _ (addedParts old new) (moved id (both old new) runs) _ added-steps (moved-within id runs usage (both old new) task draws within)
-      (removals-right usage _ (removedParts old new) _ rows removed-steps (moved-within id runs usage (has (old .from) (old .until)) task draws within) right)
+      edits-right Puts insertion insertion-right usage _ (addedParts old new) (moved id (both old new) runs) _ added-steps (moved-within id runs usage (both old new) task draws within)
+      (edits-right Takes removal removal-right usage _ (removedParts old new) _ rows removed-steps (moved-within id runs usage (has (old .from) (old .until)) task draws within) right)
 
 -- a task that runs where its part is may be moved there
 pub moved-self : (id : ℕ) (runs : Runs) (b : ℕ → Bool) → ((t : ℕ) → runs id t ≡ b t) → (i t : ℕ) → runs i t ≡ moved id b runs i t

@@ -1,7 +1,7 @@
 -- What the sums at an instant say of the one row that contains it.
 -- Assumes nothing.
 use mathlib.Core.Path.{_≡_, refl}
-use mathlib.Core.Bool.{Bool, true, false, cond}
+use mathlib.Core.Logic.{_⊎_, inl, inr, ⊎-elim}
 use mathlib.Core.List.{List, [], _∷_}
 use Prim.Native.Nat.{ℕ, zero, suc, _+_, _≤_, _<_}
 use native.Mathlib.Nat.{not-suc-le-zero, le-of-suc-le-suc}
@@ -11,7 +11,9 @@ use Rattle.time_table.specs.declared.Row.{Row}
 use Rattle.time_table.specs.Rows.{rowAt}
 use Rattle.time_table.specs.Order.{Ordered, Each}
 use Rattle.time_table.specs.Meaning.{has, summed}
+use Rattle.time_table.specs.Demand.{RowOf}
 use Rattle.time_table.proofs.Sums.{has-in, has-below, has-above, by-place}
+use Rattle.time_table.proofs.Bits.{cond-same}
 
 pub each-at : (P : Row → Type 0) (rows : List Row) (k : ℕ) → k < length rows → Each P rows → P (rowAt rows k)
 unfolding Each
@@ -78,8 +80,18 @@ summed-const f t w hi lo (r ∷ rs) o lt =
 pub summed-zero : (t : ℕ) (rows : List Row) → summed (λ (r : Row). 0) t rows ≡ 0
 unfolding summed
 summed-zero t [] = refl
-summed-zero t (r ∷ rs) = omega (arith, summed-zero t rs, either (has (r .start) (r .end + 1) t))
+summed-zero t (r ∷ rs) = omega (arith, summed-zero t rs, cond-same {A = ℕ} (has (r .start) (r .end + 1) t) 0)
+
+-- an instant is in a row, or adds nothing to any sum
+pub row-or-none : (t : ℕ) (rows : List Row) → RowOf rows t ⊎ ((f : Row → ℕ) → summed f t rows ≡ 0)
+unfolding summed
+row-or-none t [] = inr (λ f. refl)
+row-or-none t (r ∷ rs) =
+    let later = row-or-none t rs in
+    by-place (r .start) (r .end + 1) t
+    (λ h. ⊎-elim (λ w. inl (behind w)) (λ none. inr (λ f. rw (has-below (r .start) (r .end + 1) t h, none f))) later)
+    (λ l h. inl (record { place = 0; there = record { one-of = omega arith; from = l; to = omega arith } }))
+    (λ h. ⊎-elim (λ w. inl (behind w)) (λ none. inr (λ f. rw (has-above (r .start) (r .end + 1) t h, none f))) later)
   where
-    either : (b : Bool) → _≡_ {A = ℕ} (cond b 0 0) 0
-    either true = refl
-    either false = refl
+    behind : RowOf rs t → RowOf (r ∷ rs) t
+    behind w = record { place = suc (w .place); there = record { one-of = omega (arith, w .there .one-of); from = w .there .from; to = w .there .to } }

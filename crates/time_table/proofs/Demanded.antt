@@ -3,9 +3,9 @@
 -- Assumes nothing.
 use mathlib.Core.Path.{_≡_, refl, sym, _∙_}
 use mathlib.Core.Bool.{Bool, false, true≢false}
-use mathlib.Core.Logic.{_⊎_, inl, inr, ⊎-elim}
+use mathlib.Core.Logic.{⊎-elim}
 use mathlib.Core.List.{List, [], _∷_}
-use Prim.Native.Nat.{ℕ, zero, suc, _+_, _≤_, _<_}
+use Prim.Native.Nat.{ℕ, zero, suc, _≤_, _<_}
 use native.Mathlib.Nat.{not-suc-le-zero}
 use native.Mathlib.Omega.{arith}
 use borrow.Author.Tests.{eq-eqb}
@@ -14,25 +14,11 @@ use Rattle.time_table.specs.declared.Row.{Row}
 use Rattle.time_table.specs.Rows.{tasks, rowAt}
 use Rattle.time_table.specs.Order.{ticks}
 use Rattle.time_table.specs.Meaning.{bit, summed, one, total, occurs, heightAt, Sound, Right}
-use Rattle.time_table.specs.Demand.{drawAt, In, RowOf, Demanded}
-use Rattle.time_table.proofs.Sums.{has-below, has-above, by-place}
-use Rattle.time_table.proofs.AtRow.{each-at, ordered-at, summed-at, ordered-apart}
+use Rattle.time_table.specs.Demand.{drawAt, In, Demanded}
+use Rattle.time_table.proofs.AtRow.{row-or-none, each-at, ordered-at, summed-at, ordered-apart}
 use Rattle.time_table.proofs.Draws.{total-drawn}
-use Rattle.time_table.proofs.EditRight.{lists, cond-false}
-
--- an instant is in a row, or adds nothing to any sum
-row-or-none : (t : ℕ) (rows : List Row) → RowOf rows t ⊎ ((f : Row → ℕ) → summed f t rows ≡ 0)
-unfolding summed
-row-or-none t [] = inr (λ f. refl)
-row-or-none t (r ∷ rs) =
-    let later = row-or-none t rs in
-    by-place (r .start) (r .end + 1) t
-    (λ h. ⊎-elim (λ w. inl (behind w)) (λ none. inr (λ f. rw (has-below (r .start) (r .end + 1) t h, none f))) later)
-    (λ l h. inl (record { place = 0; there = record { one-of = omega arith; from = l; to = omega arith } }))
-    (λ h. ⊎-elim (λ w. inl (behind w)) (λ none. inr (λ f. rw (has-above (r .start) (r .end + 1) t h, none f))) later)
-  where
-    behind : RowOf rs t → RowOf (r ∷ rs) t
-    behind w = record { place = suc (w .place); there = record { one-of = omega (arith, w .there .one-of); from = w .there .from; to = w .there .to } }
+use Rattle.time_table.proofs.EditRight.{lists}
+use Rattle.time_table.proofs.Bits.{bit-false}
 
 -- a list that is not empty has some number
 some-member : (xs : List ℕ) → ((i : ℕ) → occurs i xs ≡ 0) → 0 < length xs → ⊥
@@ -57,7 +43,7 @@ module _ (runs : ℕ → ℕ → Bool) (usage : ℕ → ℕ) (n : ℕ) (rows : L
       ∙ total-drawn runs usage t (tasks (rowAt rows k)) (λ i. lists-at k t i w) n (λ i le. few i t le)
 
   idle : (t : ℕ) → ((f : Row → ℕ) → summed f t rows ≡ 0) → (i : ℕ) → runs i t ≡ false
-  idle t none i = cond-false (runs i t) (omega (arith, right .exact t i, none (λ r. occurs i (tasks r))))
+  idle t none i = bit-false (runs i t) (omega (arith, right .exact t i, none (λ r. occurs i (tasks r))))
 
   -- the rows are as high at every instant as the running tasks draw
   pub height-drawn : (t : ℕ) → heightAt t rows ≡ drawAt runs usage n t

@@ -3,8 +3,7 @@
 use mathlib.Core.Path.{_≡_, refl, sym, ap, _∙_}
 use mathlib.Core.Bool.{Bool, true, false, cond}
 use mathlib.Core.List.{List, [], _∷_}
-use Prim.Native.Nat.{ℕ, _+_, _*_, _≤_, _<_, max}
-use native.Mathlib.Nat.{not-suc-le-zero}
+use Prim.Native.Nat.{ℕ, _+_, _≤_, _<_, max}
 use native.Mathlib.Omega.{arith}
 use borrow.Author.Tests.{eq-eqb}
 use lib.ListN.{length}
@@ -18,17 +17,12 @@ use Rattle.time_table.specs.Meaning.{bit, has, summed, one, total, occur
 use Rattle.time_table.proofs.Sums.{has-in}
 use Rattle.time_table.proofs.AtRow.{each-at, each-of, summed-const, summed-zero, ordered-at, summed-at}
 use Rattle.time_table.proofs.Pigeon.{fewer, occurs-position}
-use Rattle.time_table.proofs.Totals.{total-taken, total-without}
+use Rattle.time_table.proofs.Totals.{total-bound, total-taken, total-without}
 use Rattle.time_table.proofs.InsertionMeaning.{insertion-tally}
 use Rattle.time_table.proofs.Orders.{insertion-ordered, removal-ordered}
 use Rattle.time_table.proofs.RowSound.{insertion-sound, removal-sound}
 use Rattle.time_table.proofs.RemovalSum.{Lessens, removal-sum}
-
--- a sum of shares that are at most m
-total-bound : (u : ℕ → ℕ) (m : ℕ) → ((x : ℕ) → u x ≤ m) → (xs : List ℕ) → total u xs ≤ length xs * m
-unfolding total
-total-bound u m le [] = omega arith
-total-bound u m le (x ∷ xs) = omega (arith, le x, total-bound u m le xs)
+use Rattle.time_table.proofs.Bits.{bit-le, bit-true, bit-false}
 
 -- no member, where each has a share and the sum is 0
 total-none : (u : ℕ → ℕ) (xs : List ℕ) → total u xs ≡ 0 → ((x : ℕ) → 0 < occurs x xs → 0 < u x) → xs ≡ []
@@ -39,18 +33,6 @@ total-none u (x ∷ xs) e pos =
     let some : 0 < u x = pos x (omega arith) in
     let no-way : _≡_ {A = ℕ} 0 1 = omega arith in
     absurd (omega (arith, no-way))
-
-pub cond-true : (b : Bool) → 0 < bit b → b ≡ true
-cond-true true lt = refl
-cond-true false lt = absurd (not-suc-le-zero lt)
-
-pub cond-false : (b : Bool) → bit b < 1 → b ≡ false
-cond-false true e = absurd (omega (arith, e))
-cond-false false e = refl
-
-cond-le : (b : Bool) → bit b ≤ 1
-cond-le true = omega arith
-cond-le false = omega arith
 
 occurs-more : (x : ℕ) (ts : List ℕ) (id : ℕ) → position id ts < length ts → 0 < occurs x (takenOut id ts) → 0 < occurs x ts
 occurs-more x ts id at some = omega (arith, total-taken (one x) id ts at)
@@ -65,10 +47,10 @@ module _ (p : Part) (small big : ℕ → ℕ → Bool) (with : With p small big)
   counts = rw (has-in (p .from) (p .until) t l r, eq-eqb (p .id) (p .id) refl) at (with t (p .id))
 
   pub runs-in : big (p .id) t ≡ true
-  runs-in = cond-true (big (p .id) t) (omega (arith, counts))
+  runs-in = bit-true (big (p .id) t) (omega (arith, counts))
 
   pub free-in : small (p .id) t ≡ false
-  free-in = cond-false (small (p .id) t) (omega (arith, counts, cond-le (big (p .id) t)))
+  free-in = bit-false (small (p .id) t) (omega (arith, counts, bit-le (big (p .id) t)))
 
 module _ (runs : ℕ → ℕ → Bool) (usage : ℕ → ℕ) (rows : List Row) (right : Right runs usage rows) (k : ℕ) (lt : k < length rows) where
   -- the row lists exactly the tasks that run at each of its instants, each once
@@ -89,7 +71,7 @@ module _ (runs : ℕ → ℕ → Bool) (usage : ℕ → ℕ) (rows : List Row) (
             let here : (i : ℕ) → occurs i (tasks r) ≡ bit (runs i t) = λ i. lists t i (omega arith) (omega arith) in
             let free = free-in p runs big with t (omega arith) (omega arith) in
             let short : length (tasks r) < 32 =
-            fewer (tasks r) (λ i. rw (here i) (cond-le (runs i t))) (p .id) 32
+            fewer (tasks r) (λ i. rw (here i) (bit-le (runs i t))) (p .id) 32
             (here (p .id) ∙ rw free) (of .task) (λ i le. here i ∙ rw (within .few i t le)) in
             (omega (arith, s .listed .counts), omega (arith, s .high, of .same, within .small (p .id), total-bound usage 134217727 (λ i. omega (arith, within .small i)) (tasks r)));
       }
@@ -126,7 +108,7 @@ module _ (runs : ℕ → ℕ → Bool) (usage : ℕ → ℕ) (rows : List Row) (
             let left : total usage (takenOut (p .id) ts) ≡ 0 = omega (arith, total-taken usage (p .id) ts at, s .high, e, same) in
             let gone : takenOut (p .id) ts ≡ [] =
             total-none usage (takenOut (p .id) ts) left (λ x some.
-            within .draws x t (cond-true _ (rw (lists t x (omega arith) (omega arith)) at (occurs-more x ts (p .id) at some)))) in
+            within .draws x t (bit-true _ (rw (lists t x (omega arith) (omega arith)) at (occurs-more x ts (p .id) at some)))) in
             total-empty i ts (p .id) at gone;
       }
 

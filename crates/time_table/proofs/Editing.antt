@@ -44,18 +44,6 @@ pub record Editable (E : Part → Runs → Runs → Type 0) (ps : List Part) (t 
   pub within : Within runs usage
   pub steps : Steps E usage runs ps last
 
--- a part, of some instants, can be put into a table
-pub record CanInsert (p : Part) (t : Table) : Type 0 where
-  pub arranged : Arranged t
-  pub some : p .from < p .until
-  pub each : Each (Insertable p) (rowsOf t)
-
--- a part, of some instants, can be taken out of a table
-pub record CanRemove (p : Part) (t : Table) : Type 0 where
-  pub arranged : Arranged t
-  pub some : p .from < p .until
-  pub each : Each (Removable p) (rowsOf t)
-
 -- what a step makes of rows, where its part has come to the instant x
 abbrev pub stepped : Step → ℕ → List Row → List Row
 stepped s x rows = cond (s .taking) (removal (s .part) rows) (insertion (startedAt (s .part) x) rows)

@@ -7,59 +7,59 @@ use Prim.Native.Nat.{ℕ, zero, suc, _+_, _-_, _≤_, _<_}
 use native.Mathlib.Omega.{arith}
 use native.Mathlib.Nat.{sub-zero, zero-sub, suc-sub-suc}
 use native.Mathlib.Numerals.{add-one}
-use lib.ListN.{length, drop, set, replicate, length-append, replicate-append-replicate}
+use lib.ListN.{length, drop, getD, set, replicate, length-append, replicate-append-replicate}
 use lib.Seq.{drop-cons, set-at, append-snoc, drop-drop, drop-at, getD-append-add, getD-drop}
 use Rattle.time_table.specs.declared.Row.{Row}
 use Rattle.time_table.specs.declared.Table.{Table}
 use Rattle.time_table.specs.Held.{Held}
 use Rattle.time_table.specs.Rows.{emptyRow, noRow, rowAt, rowsOf, Clean}
 
--- the first n of the rows are `done`, and from there on they are those of another list
-pub record Front (source rows : List Row) (n : ℕ) (done : List Row) : Type 0 where
+-- the first n of a list of `cap` are `done`, and from there on it is another list
+pub record Front {A : Type 0} (cap : ℕ) (source rows : List A) (n : ℕ) (done : List A) : Type 0 where
   pub is : rows ≡ done ++ drop n source
   pub counts : n ≡ length done
-  pub size : length source ≡ 128
-  pub fits : n ≤ 128
+  pub size : length source ≡ cap
+  pub fits : n ≤ cap
 
-module _ {source rows done : List Row} {n : ℕ} (f : Front source rows n done) where
-  pub front-as : {l : List Row} → done ≡ l → Front source rows n l
+module _ {A : Type 0} {cap n : ℕ} {source rows done : List A} (f : Front cap source rows n done) where
+  pub front-as : {l : List A} → done ≡ l → Front cap source rows n l
   front-as e = rw e at f
 
-  opened : n < 128 → rows ≡ done ++ rowAt source n ∷ drop (n + 1) source
-  opened lt =
+  pub opened : (d : A) → n < cap → rows ≡ done ++ getD source n d ∷ drop (n + 1) source
+  opened d lt =
       let inside : n < length source = omega (arith, f .size) in
-      f .is ∙ rw (add-one n) (ap (λ (l : List Row). done ++ l) (drop-cons source n noRow inside))
+      f .is ∙ rw (add-one n) (ap (λ (l : List A). done ++ l) (drop-cons source n d inside))
 
-  longer : (x : Row) → n + 1 ≡ length (done ++ x ∷ [])
+  longer : (x : A) → n + 1 ≡ length (done ++ x ∷ [])
   longer x = rw length-append (omega (arith, f .counts))
 
   -- one more stored; or left where it is
-  pub front-store : n < 128 → (x : Row) → Front source (set rows n x) (n + 1) (done ++ x ∷ [])
+  pub front-store : n < cap → (x : A) → Front cap source (set rows n x) (n + 1) (done ++ x ∷ [])
   front-store lt x =
       record {
-        is = rw (opened lt, append-snoc) (set-at done _ _ x n (sym (f .counts)));
+        is = rw (opened x lt, append-snoc) (set-at done _ _ x n (sym (f .counts)));
         counts = longer x;
         size = f .size;
         fits = omega arith;
       }
 
-  pub front-skip : n < 128 → Front source rows (n + 1) (done ++ rowAt source n ∷ [])
-  front-skip lt = record { is = rw append-snoc (opened lt); counts = longer (rowAt source n); size = f .size; fits = omega arith }
+  pub front-skip : (d : A) → n < cap → Front cap source rows (n + 1) (done ++ getD source n d ∷ [])
+  front-skip d lt = record { is = rw append-snoc (opened d lt); counts = longer (getD source n d); size = f .size; fits = omega arith }
 
   -- what is behind is as it was
-  pub front-behind : (x : ℕ) → n ≤ x → rowAt rows x ≡ rowAt source x
-  front-behind x le =
+  pub front-behind : (d : A) (x : ℕ) → n ≤ x → getD rows x d ≡ getD source x d
+  front-behind d x le =
       let past : x ≡ length done + (x - n) = omega (arith, f .counts) in
       let there : n + (x - n) ≡ x = omega arith in
-      (λ i. rowAt (f .is i) (past i)) ∙ getD-append-add done (drop n source) (x - n) noRow ∙ getD-drop n source (x - n) noRow ∙ ap (rowAt source) there
+      (λ i. getD (f .is i) (past i) d) ∙ getD-append-add done (drop n source) (x - n) d ∙ getD-drop n source (x - n) d ∙ ap (λ (k : ℕ). getD source k d) there
 
 -- where more rows are laid than read, those not read yet stand in a copy
 pub record Kept (source copy : List Row) (n i : ℕ) : Type 0 where
   pub same : i < n → (x : ℕ) → i ≤ x → rowAt copy x ≡ rowAt source x
 
 -- the copy is made where the next row to be read is about to be laid over
-pub kept-copy : {source rows done : List Row} {n i : ℕ} → Front source rows n done → n ≡ i → Kept source rows (n + 1) i
-kept-copy f e = record { same = λ lt x le. front-behind f x (omega arith) }
+pub kept-copy : {source rows done : List Row} {n i : ℕ} → Front 128 source rows n done → n ≡ i → Kept source rows (n + 1) i
+kept-copy f e = record { same = λ lt x le. front-behind f noRow x (omega arith) }
 
 module _ {source copy : List Row} {n i : ℕ} (k : Kept source copy n i) where
   pub kept-piece : (n ≡ i → ⊥) → Kept source copy (n + 1) i
@@ -82,12 +82,12 @@ drop-replicate (suc k) (suc m) a = rw suc-sub-suc (drop-replicate k m a)
 
 pub record Cleared (whole : List Row) (count : ℕ) (rows : List Row) (n at : ℕ) : Type 0 where
   pub source : List Row
-  pub front : Front source rows at (whole ++ replicate (at - n) emptyRow)
+  pub front : Front 128 source rows at (whole ++ replicate (at - n) emptyRow)
   pub counts : n ≡ length whole
   pub upto : n ≤ at
   pub blank : drop count source ≡ replicate (128 - count) emptyRow
 
-pub clear-start : (t : Table) {whole rows : List Row} {n : ℕ} → Clean t → Front (t .rows) rows n whole → Cleared whole (t .count) rows n n
+pub clear-start : (t : Table) {whole rows : List Row} {n : ℕ} → Clean t → Front 128 (t .rows) rows n whole → Cleared whole (t .count) rows n n
 clear-start t {whole} {rows} {n} clean f =
     let none : n - n ≡ 0 = omega arith in
     let long : 128 - length (rowsOf t) ≡ 128 - t .count = omega (arith, clean .counts) in

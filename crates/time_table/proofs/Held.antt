@@ -2,10 +2,11 @@
 -- Assumes nothing.
 use mathlib.Core.Path.{_≡_, sym, ap, _∙_}
 use mathlib.Core.List.{List, [], _∷_, _++_}
-use Prim.Native.Nat.{ℕ, suc, _+_, _-_, _<_}
+use Prim.Native.Nat.{ℕ, suc, _+_, _-_, _≤_, _<_}
 use native.Mathlib.Omega.{arith}
-use lib.ListN.{length, take, getD, set, replicate, length-append, length-replicate, length-set, List·getD-append}
-use lib.Seq.{take-at, set-at, set-append-left, take-suc, take-all, length-take-le, append-snoc}
+use native.Mathlib.Numerals.{add-one}
+use lib.ListN.{length, take, drop, getD, drop-of-length-le, set, replicate, length-append, length-replicate, length-set, List·getD-append}
+use lib.Seq.{drop-cons, take-at, set-at, set-append-left, take-suc, take-all, length-take-le, append-snoc}
 use Rattle.time_table.specs.Held.{Held}
 
 module _ {A : Type 0} {cap n : ℕ} {blank : A} {arr l : List A} where
@@ -26,6 +27,17 @@ module _ {A : Type 0} {cap n : ℕ} {blank : A} {arr l : List A} where
   held-get h d i lt =
       let lt' : i < length l = omega arith in
       rw (h .is) (List·getD-append l _ d i lt')
+
+  -- the list from a place on: what stands there, and what follows; and nothing from the count on
+  pub held-next : Held cap blank arr n l → (d : A) (i : ℕ) → i < n → drop i l ≡ getD arr i d ∷ drop (i + 1) l
+  held-next h d i lt =
+      let inside : i < length l = omega arith in
+      rw (add-one i, held-get h d i lt) (drop-cons l i d inside)
+
+  pub held-end : Held cap blank arr n l → (i : ℕ) → n ≤ i → drop i l ≡ []
+  held-end h i le =
+      let past : length l ≤ i = omega arith in
+      drop-of-length-le l past
 
   -- a store at the count puts one more at the list's end
   pub held-push : Held cap blank arr n l → (x : A) → n < cap → Held cap blank (set arr n x) (n + 1) (l ++ x ∷ [])

@@ -1,16 +1,15 @@
 -- A step of an update goes from row to row: what it has laid, and what it makes of the rows that are left, are what it makes of all rows.
 -- Assumes nothing.
 use mathlib.Core.Path.{_≡_, refl, sym, ap, _∙_}
-use mathlib.Core.Bool.{Bool, true, false, cond, not, _&&_, _||_, false≢true}
+use mathlib.Core.Bool.{Bool, true, false, cond, not, false≢true}
 use mathlib.Core.Logic.{_⊎_, inl, inr, ⊎-elim}
 use mathlib.Core.List.{List, [], _∷_, _++_, append-assoc, append-nil}
 use Prim.Native.Nat.{ℕ, zero, suc, _+_, _-_, _≤_, _<_, _^_}
 use native.Mathlib.Omega.{arith}
-use native.Mathlib.Numerals.{add-one}
 use borrow.Author.Tests.{lt-ltb, le-ltb, le-leb, leb-true}
 use lib.Dec.{leb}
-use lib.ListN.{length, drop, set, length-append, drop-of-length-le}
-use lib.Seq.{drop-cons, getD-take, append-snoc}
+use lib.ListN.{length, drop, set, length-append}
+use lib.Seq.{getD-take, append-snoc}
 use Rattle.time_table.specs.declared.Row.{Row}
 use Rattle.time_table.specs.declared.Table.{Table}
 use Rattle.time_table.specs.declared.pieces.Piece.{Piece}
@@ -23,7 +22,7 @@ use Rattle.time_table.specs.Insertion.{alone, gapBefore, heightened, gro
 use Rattle.time_table.specs.Removal.{lessened, reduced, removal, Removable}
 use Rattle.time_table.specs.Stepping.{partAt, piecesFrom, NextPiece, madeLast, untouched, Changeable}
 use Rattle.time_table.proofs.Editing.{stepped, CanStep}
-use Rattle.time_table.proofs.Held.{held-length}
+use Rattle.time_table.proofs.Held.{held-length, held-next, held-end}
 use Rattle.time_table.proofs.Piecewise.{no-piece}
 use Rattle.time_table.proofs.Cut.{cut-none}
 use Rattle.time_table.proofs.AtRow.{each-at, ordered-at, ordered-apart}
@@ -31,6 +30,7 @@ use Rattle.time_table.proofs.Front.{Front, front-as, front-store, front
 use Rattle.time_table.proofs.Heightened.{insertable-later}
 use Rattle.time_table.proofs.Apart.{reduced-early, reduced-late, grown-early, grown-late}
 use Rattle.time_table.proofs.Sums.{lt-or-le}
+use Rattle.time_table.proofs.Bits.{both, either}
 
 -- what a step makes of no rows, and of a first row and the others
 module _ (s : Step) (x : ℕ) where
@@ -56,14 +56,6 @@ module _ (s : Step) (x : ℕ) where
           (append-assoc (gapBefore q r ++ beforePart q r) (heightened q r) (afterPart q r) ∙ append-assoc (gapBefore q r) (beforePart q r) (heightened q r ++ afterPart q r))
 
 -- what a test says
-either : (a b : Bool) → (a || b) ≡ true → (a ≡ true) ⊎ (b ≡ true)
-either true b e = inl refl
-either false b e = inr e
-
-both : (a b : Bool) → (a && b) ≡ true → (a ≡ true) × (b ≡ true)
-both true b e = (refl, e)
-both false b e = absurd (false≢true e)
-
 starts-behind : (s : Step) (r : Row) → s .part .from ≤ r .end → not (overlaps (s .part .from) (s .part .until) (r .start) (r .end)) ≡ true → s .part .until ≤ r .start
 starts-behind s r ge h =
     ⊎-elim
@@ -122,7 +114,7 @@ Stays s t x i = stepped s x (rowAt (t .rows) i ∷ drop (i + 1) (rowsOf t)) ≡ 
 -- j on to lay next
 pub record Laid (s : Step) (t : Table) (rows : List Row) (n x i : ℕ) (r : Row) (y j : ℕ) : Type 0 where
   pub done : List Row
-  pub front : Front (t .rows) rows n done
+  pub front : Front 128 (t .rows) rows n done
   pub can : j < 4 → Changeable (s .taking) (partAt s y) r
   pub within : j ≤ 4
   pub low : s .part .from ≤ x
@@ -146,9 +138,6 @@ module _ (s : Step) (t : Table) (can : CanStep s t) where
 
   -- the row at a place
   module _ (i : ℕ) (lt : i < t .count) where
-    row : Row
-    row = rowAt (t .rows) i
-
     pub row-lies : (rowAt (t .rows) i .start ≤ rowAt (t .rows) i .end) × (rowAt (t .rows) i .end + 1 < 2 ^ 32)
     row-lies =
         let inside : i < length (rowsOf t) = omega (arith, can .arranged .clean .counts) in
@@ -161,11 +150,6 @@ module _ (s : Step) (t : Table) (can : CanStep s t) where
           out = λ e. rw e (row-of (Removable (s .part)) t i (can .arranged .clean) lt (can .out e));
           into = λ e. rw e (insertable-later (s .part) _ x le (row-of (Insertable (s .part)) t i (can .arranged .clean) lt (can .into e)));
         }
-
-    next-here : drop i (rowsOf t) ≡ rowAt (t .rows) i ∷ drop (i + 1) (rowsOf t)
-    next-here =
-        let inside : i < length (rowsOf t) = omega (arith, can .arranged .clean .counts) in
-        rw (add-one i, ← (getD-take (t .count) (t .rows) i noRow lt)) (drop-cons (rowsOf t) i noRow inside)
 
   module _ {rows : List Row} {n x i y j : ℕ} {r : Row} (l : Laid s t rows n x i r y j) where
     -- a piece is laid, or there is none
@@ -215,16 +199,15 @@ module _ (s : Step) (t : Table) (can : CanStep s t) where
       module _ (all : t .count ≤ i) where
         closing : l .done ++ madeLast s x ≡ stepped s (s .part .from) (rowsOf t)
         closing =
-            let past : length (rowsOf t) ≤ i = omega (arith, can .arranged .clean .counts) in
-            rw (drop-of-length-le (rowsOf t) past, stepped-nil) at spent
+            rw (held-end (can .arranged .clean) i all, stepped-nil) at spent
 
-        pub last-none : (last : Piece) → Cuts last 4 (madeLast s x) → last .some ≡ false → Front (t .rows) rows n (stepped s (s .part .from) (rowsOf t))
+        pub last-none : (last : Piece) → Cuts last 4 (madeLast s x) → last .some ≡ false → Front 128 (t .rows) rows n (stepped s (s .part .from) (rowsOf t))
         last-none last c e = front-as (l .front) (sym (append-nil _) ∙ ap (λ (p : List Row). l .done ++ p) (sym (no-piece last c e)) ∙ closing)
 
         one : (last : Piece) → Cuts last 4 (madeLast s x) → last .some ≡ true → l .done ++ last .row ∷ [] ≡ stepped s (s .part .from) (rowsOf t)
         one last c e = ap (λ (p : List Row). l .done ++ p) (ap (λ (b : Bool). cond b (last .row ∷ []) []) (sym e) ∙ c .0) ∙ closing
 
-        pub last-some : (last : Piece) → Cuts last 4 (madeLast s x) → last .some ≡ true → n < 128 → Front (t .rows) (set rows n (last .row)) (n + 1) (stepped s (s .part .from) (rowsOf t))
+        pub last-some : (last : Piece) → Cuts last 4 (madeLast s x) → last .some ≡ true → n < 128 → Front 128 (t .rows) (set rows n (last .row)) (n + 1) (stepped s (s .part .from) (rowsOf t))
         last-some last c e room = front-as (front-store (l .front) room (last .row)) (one last c e)
 
         pub last-over : (last : Piece) → Cuts last 4 (madeLast s x) → last .some ≡ true → 128 ≤ n → 128 < length (stepped s (s .part .from) (rowsOf t))
@@ -241,15 +224,15 @@ module _ (s : Step) (t : Table) (can : CanStep s t) where
               low = omega (arith, l .low);
               high = omega (arith, l .high);
               far = omega arith;
-              joins = rw (next-here i lt, stepped-cons) at spent;
+              joins = rw (held-next (can .arranged .clean) noRow i lt, stepped-cons) at spent;
             }
 
         module _ (still : Stays s t x i) where
           onward : (l .done ++ rowAt (t .rows) i ∷ []) ++ stepped s x (drop (i + 1) (rowsOf t)) ≡ stepped s (s .part .from) (rowsOf t)
           unfolding Stays
-          onward = rw append-snoc (rw (next-here i lt, still) at spent)
+          onward = rw append-snoc (rw (held-next (can .arranged .clean) noRow i lt, still) at spent)
 
-          behind : {rows' : List Row} → Front (t .rows) rows' (n + 1) (l .done ++ rowAt (t .rows) i ∷ []) → Laid s t rows' (n + 1) x (i + 1) r y j
+          behind : {rows' : List Row} → Front 128 (t .rows) rows' (n + 1) (l .done ++ rowAt (t .rows) i ∷ []) → Laid s t rows' (n + 1) x (i + 1) r y j
           behind f =
               let last : j ≡ 4 = omega (arith, l .within) in
               record {
@@ -267,7 +250,7 @@ module _ (s : Step) (t : Table) (can : CanStep s t) where
           laid-moves room = behind (front-store (l .front) room (rowAt (t .rows) i))
 
           laid-stays : n ≡ i → Laid s t rows (n + 1) x (i + 1) r y j
-          laid-stays e = behind (front-as (front-skip (l .front) (omega (arith, can .arranged .clean .fits))) (ap (λ (k : ℕ). l .done ++ rowAt (t .rows) k ∷ []) e))
+          laid-stays e = behind (front-as (front-skip (l .front) noRow (omega (arith, can .arranged .clean .fits))) (ap (λ (k : ℕ). l .done ++ rowAt (t .rows) k ∷ []) e))
 
           pub moves-over : 128 ≤ n → 128 < length (stepped s (s .part .from) (rowsOf t))
           moves-over full = rw (← onward, length-append, length-append) (omega (arith, l .front .counts))

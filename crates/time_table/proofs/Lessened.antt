@@ -1,8 +1,7 @@
 -- What a removal leaves of the instants that a part covers in a row.
 -- Assumes nothing.
-use mathlib.Core.Path.{_≡_, refl}
-use mathlib.Core.Bool.{Bool, true, false, cond}
-use mathlib.Core.List.{List, []}
+use mathlib.Core.Path.{_≡_}
+use mathlib.Core.List.{[]}
 use Prim.Native.Nat.{_+_, _≤_, min, max}
 use lib.Dec.{eqb}
 use borrow.Author.Tests.{eq-eqb, ne-eqb}
@@ -11,6 +10,7 @@ use Rattle.time_table.specs.declared.Part.{Part}
 use Rattle.time_table.specs.Rows.{cut}
 use Rattle.time_table.specs.Removal.{without, lessened}
 use Rattle.time_table.proofs.Cut.{cut-none}
+use Rattle.time_table.proofs.Bits.{cond-same}
 
 module _ (p : Part) (r : Row) where
   pub lessened-flat : r .height ≡ p .usage → lessened p r ≡ []
@@ -19,11 +19,7 @@ module _ (p : Part) (r : Row) where
 
   pub lessened-apart : min (p .until) (r .end + 1) ≤ max (p .from) (r .start) → lessened p r ≡ []
   unfolding lessened
-  lessened-apart h = rw (cut-none _ _ _ h) (either (eqb (r .height) (p .usage)))
-    where
-      either : (b : Bool) → _≡_ {A = List Row} (cond b [] []) []
-      either true = refl
-      either false = refl
+  lessened-apart h = rw (cut-none _ _ _ h) (cond-same (eqb (r .height) (p .usage)) [])
 
   pub lessened-is : (r .height ≡ p .usage → ⊥)
       → lessened p r ≡ cut (without r (p .id) (p .usage)) (max (p .from) (r .start)) (min (p .until) (r .end + 1))

@@ -1,4 +1,6 @@
 pub mod Held
+pub mod Bits
+pub mod Mapped
 pub mod Position
 pub mod RowOf
 pub mod Cut
@@ -8,7 +10,6 @@ pub mod Sums
 pub mod Totals
 pub mod AtRow
 pub mod Orders
-pub mod Stretch
 pub mod Build
 pub mod Apart
 pub mod Sentence

@@ -1,20 +1,23 @@
 -- The first row that is too high starts at the first instant that is: rows are in order, and where no row is the height is 0.
 -- Assumes nothing.
 use mathlib.Core.Path.{_≡_, refl}
-use mathlib.Core.Bool.{true, false, true≢false, false≢true}
+use mathlib.Core.Bool.{Bool, true, false, cond}
 use mathlib.Core.Logic.{⊎-elim}
 use mathlib.Core.List.{List, [], _∷_}
-use Prim.Native.Nat.{ℕ, suc, _+_, _≤_, _<_}
+use Prim.Native.Nat.{ℕ, zero, suc, _≤_, _<_}
+use native.Mathlib.Nat.{not-suc-le-zero, le-of-suc-le-suc}
 use native.Mathlib.Omega.{arith}
-use borrow.Author.Tests.{lt-ltb, le-ltb}
+use borrow.Author.Tests.{ltb-true, ltb-false}
+use lib.Dec.{ltb}
 use lib.ListN.{length}
 use Rattle.time_table.specs.declared.Row.{Row}
 use Rattle.time_table.specs.Rows.{rowAt}
 use Rattle.time_table.specs.Order.{Ordered}
-use Rattle.time_table.specs.Overload.{conflictIn}
-use Rattle.time_table.specs.Meaning.{summed, heightAt}
-use Rattle.time_table.proofs.Sums.{has-in, has-below, has-above, by-place, lt-or-le}
-use Rattle.time_table.proofs.AtRow.{summed-before}
+use Rattle.time_table.specs.Overload.{conflictIn, FirstOver, NoneOver}
+use Rattle.time_table.specs.Meaning.{heightAt}
+use Rattle.time_table.specs.Demand.{In}
+use Rattle.time_table.proofs.Sums.{lt-or-le}
+use Rattle.time_table.proofs.AtRow.{ordered-at, ordered-apart, summed-at, row-or-none}
 
 -- the row is too high, and starts at the first instant whose height is
 pub record First (capacity lo : ℕ) (rows : List Row) (r : Row) : Type 0 where
@@ -23,62 +26,68 @@ pub record First (capacity lo : ℕ) (rows : List Row) (r : Row) : Type 0 where
   pub height : heightAt (r .start) rows ≡ r .height
   pub before : (t : ℕ) → t < r .start → heightAt t rows ≤ capacity
 
-abbrev height : Row → ℕ
-height r = r .height
+module _ (capacity : ℕ) where
+  pub conflict-row : (rows : List Row) → conflictIn capacity rows .found ≡ true → FirstOver capacity rows (conflictIn capacity rows .row)
+  unfolding conflictIn
+  conflict-row [] e = let z : _≡_ {A = ℕ} 0 1 = cc in absurd (omega arith)
+  conflict-row (r ∷ rs) e = go (ltb capacity (r .height)) refl e (conflict-row rs)
+    where
+      go : (b : Bool) → ltb capacity (r .height) ≡ b → cond b (record { found = true; row = r }) (conflictIn capacity rs) .found ≡ true
+          → (conflictIn capacity rs .found ≡ true → FirstOver capacity rs (conflictIn capacity rs .row))
+          → FirstOver capacity (r ∷ rs) (cond b (record { found = true; row = r }) (conflictIn capacity rs) .row)
+      go true h e rec =
+          record { at = 0; within = omega arith; is = refl; over = ltb-true capacity (r .height) h; first = λ k lt. absurd (not-suc-le-zero lt) }
+      go false h e rec = later (ltb-false capacity (r .height) h) (rec e)
+        where
+          below : (at k : ℕ) → r .height ≤ capacity → ((j : ℕ) → j < at → rowAt rs j .height ≤ capacity) → k < suc at → rowAt (r ∷ rs) k .height ≤ capacity
+          below at zero low first lt = low
+          below at (suc k) low first lt = first k (le-of-suc-le-suc lt)
 
-module _ (capacity hi : ℕ) where
-  pub conflict-fits : (lo : ℕ) (rows : List Row) → Ordered hi lo rows → conflictIn capacity rows .found ≡ false → (t : ℕ) → heightAt t rows ≤ capacity
-  unfolding conflictIn summed Ordered
-  conflict-fits lo [] o e t = omega arith
-  conflict-fits lo (r ∷ rs) o e t =
-      ⊎-elim
-      (λ high. absurd (true≢false (rw (lt-ltb capacity (r .height) high) at e)))
-      (λ low.
-      let later = conflict-fits (r .end + 1) rs (o .3) (rw (le-ltb capacity (r .height) low) at e) t in
-      by-place (r .start) (r .end + 1) t
-      (λ h. rw (has-below (r .start) (r .end + 1) t h) (omega arith))
-      (λ l h. rw (has-in (r .start) (r .end + 1) t l h) (omega (arith, summed-before height t hi (r .end + 1) rs (o .3) h)))
-      (λ h. rw (has-above (r .start) (r .end + 1) t h) (omega arith)))
-      (lt-or-le capacity (r .height))
+          later : r .height ≤ capacity → FirstOver capacity rs (conflictIn capacity rs .row) → FirstOver capacity (r ∷ rs) (conflictIn capacity rs .row)
+          later low w =
+              record { at = suc (w .at); within = omega (arith, w .within); is = w .is; over = w .over; first = λ k lt. below (w .at) k low (w .first) lt }
 
-  pub conflict-first : (lo : ℕ) (rows : List Row) → Ordered hi lo rows → conflictIn capacity rows .found ≡ true → First capacity lo rows (conflictIn capacity rows .row)
-  unfolding conflictIn summed Ordered
-  conflict-first lo [] o e = absurd (false≢true e)
-  conflict-first lo (r ∷ rs) o e =
-      ⊎-elim
-      (λ high. rw (lt-ltb capacity (r .height) high)
-      (record {
-        after = o .0;
-        high = high;
-        height = rw (has-in (r .start) (r .end + 1) (r .start) (omega arith) (omega arith)) (omega (arith, summed-before height (r .start) hi (r .end + 1) rs (o .3) (omega arith)));
-        before = λ t lt. rw (has-below (r .start) (r .end + 1) t lt) (omega (arith, summed-before height t hi (r .end + 1) rs (o .3) (omega arith)));
-      }))
-      (λ low. rw (le-ltb capacity (r .height) low)
-      (let w = conflict-first (r .end + 1) rs (o .3) (rw (le-ltb capacity (r .height) low) at e) in
-      record {
-        after = omega (arith, w .after);
-        high = w .high;
-        height = rw (has-above (r .start) (r .end + 1) (conflictIn capacity rs .row .start) (w .after)) (omega (arith, w .height));
-        before = λ t lt.
-            by-place (r .start) (r .end + 1) t
-            (λ h. rw (has-below (r .start) (r .end + 1) t h) (omega (arith, w .before t lt)))
-            (λ l h. rw (has-in (r .start) (r .end + 1) t l h) (omega (arith, summed-before height t hi (r .end + 1) rs (o .3) h)))
-            (λ h. rw (has-above (r .start) (r .end + 1) t h) (omega (arith, w .before t lt)));
-      }))
-      (lt-or-le capacity (r .height))
+  pub conflict-none-over : (rows : List Row) → conflictIn capacity rows .found ≡ false → NoneOver capacity rows
+  unfolding conflictIn
+  conflict-none-over [] e = λ k lt. absurd (not-suc-le-zero lt)
+  conflict-none-over (r ∷ rs) e = go (ltb capacity (r .height)) refl e (conflict-none-over rs)
+    where
+      go : (b : Bool) → ltb capacity (r .height) ≡ b → cond b (record { found = true; row = r }) (conflictIn capacity rs) .found ≡ false
+          → (conflictIn capacity rs .found ≡ false → NoneOver capacity rs) → NoneOver capacity (r ∷ rs)
+      go true h e rec = let z : _≡_ {A = ℕ} 0 1 = cc in absurd (omega arith)
+      go false h e rec = each (rec e)
+        where
+          each : NoneOver capacity rs → (k : ℕ) → k < suc (length rs) → rowAt (r ∷ rs) k .height ≤ capacity
+          each low zero lt = ltb-false capacity (r .height) h
+          each low (suc k) lt = low k (le-of-suc-le-suc lt)
 
--- the row that is shown is one of the rows
-pub record RowIn (rows : List Row) (r : Row) : Type 0 where
-  pub place : ℕ
-  pub one-of : place < length rows
-  pub is : r ≡ rowAt rows place
+  module _ (hi lo : ℕ) (rows : List Row) (o : Ordered hi lo rows) where
+    -- what the height is at an instant: that of a row which has it, or nothing
+    by-row : (t : ℕ) → ((k : ℕ) → In rows k t → rowAt rows k .height ≤ capacity) → heightAt t rows ≤ capacity
+    by-row t low =
+        ⊎-elim
+        (λ w. rw (summed-at (λ (r : Row). r .height) t hi lo rows (w .place) (w .there .one-of) o (w .there .from) (w .there .to)) (low (w .place) (w .there)))
+        (λ none. rw (none (λ r. r .height)) (omega arith))
+        (row-or-none t rows)
 
-pub conflict-in : (capacity : ℕ) (rows : List Row) → conflictIn capacity rows .found ≡ true → RowIn rows (conflictIn capacity rows .row)
-unfolding conflictIn
-conflict-in capacity [] e = absurd (false≢true e)
-conflict-in capacity (r ∷ rs) e =
-    ⊎-elim
-    (λ high. rw (lt-ltb capacity (r .height) high) (record { place = 0; one-of = omega arith; is = refl }))
-    (λ low. rw (le-ltb capacity (r .height) low)
-    (let w = conflict-in capacity rs (rw (le-ltb capacity (r .height) low) at e) in record { place = suc (w .place); one-of = omega (arith, w .one-of); is = w .is }))
-    (lt-or-le capacity (r .height))
+    pub conflict-fits : conflictIn capacity rows .found ≡ false → (t : ℕ) → heightAt t rows ≤ capacity
+    conflict-fits e t = by-row t (λ k w. conflict-none-over rows e k (w .one-of))
+
+    pub conflict-first : conflictIn capacity rows .found ≡ true → First capacity lo rows (conflictIn capacity rows .row)
+    conflict-first e =
+        let w = conflict-row rows e in
+        let lies = ordered-at hi lo rows (w .at) (w .within) o in
+        let high = rw (w .is) at (w .over) in
+        rw (w .is)
+        (record {
+          after = lies .0;
+          high = high;
+          height = summed-at (λ (r : Row). r .height) (rowAt rows (w .at) .start) hi lo rows (w .at) (w .within) o (omega arith) (lies .1);
+          before = λ t lt. by-row t (λ k v.
+              ⊎-elim (w .first k)
+              (λ le. ⊎-elim
+              (λ less. absurd (omega (arith, ordered-apart hi lo rows (w .at) k o less (v .one-of), v .from, lies)))
+              (λ ge. let same : k ≡ w .at = omega arith in absurd (omega (arith, rw same at (v .from))))
+              (lt-or-le (w .at) k))
+              (lt-or-le k (w .at)));
+        })

@@ -1,6 +1,6 @@
 -- A list of numbers below n that has each at most once, and one of them not at all, is shorter than n.
 -- Assumes nothing.
-use mathlib.Core.Path.{_≡_, refl}
+use mathlib.Core.Path.{_≡_}
 use mathlib.Core.Bool.{Bool, true, false, cond}
 use mathlib.Core.List.{List, [], _∷_}
 use Prim.Native.Nat.{ℕ, zero, suc, _+_, _≤_, _<_}
@@ -12,6 +12,7 @@ use lib.ListN.{length}
 use Rattle.time_table.specs.Removal.{position}
 use Rattle.time_table.specs.Meaning.{bit, total, occurs}
 use Rattle.time_table.proofs.Shares.{below, below-none, below-more, below-all}
+use Rattle.time_table.proofs.Totals.{total-ones}
 
 -- an id that occurs has a place
 pub occurs-position : (i : ℕ) (xs : List ℕ) → 0 < occurs i xs → position i xs < length xs
@@ -27,11 +28,6 @@ occurs-position i (x ∷ xs) lt = go (occurs-position i xs) (eqb x i) lt
 abbrev each : ℕ → ℕ
 each x = 1
 
-total-each : (xs : List ℕ) → total each xs ≡ length xs
-unfolding total
-total-each [] = refl
-total-each (x ∷ xs) = omega (arith, total-each xs)
-
 module _ (xs : List ℕ) (once : (i : ℕ) → occurs i xs ≤ 1) where
   few : (n : ℕ) → total (below each n) xs ≤ n
   few zero = omega (arith, below-none each xs)
@@ -46,4 +42,4 @@ module _ (xs : List ℕ) (once : (i : ℕ) → occurs i xs ≤ 1) where
       ]
 
   pub fewer : (id n : ℕ) → occurs id xs ≡ 0 → id < n → ((i : ℕ) → n ≤ i → occurs i xs ≡ 0) → length xs < n
-  fewer id n none lt low = rw (← (total-each xs), ← (below-all each n xs low)) (fewer-below id none n lt)
+  fewer id n none lt low = rw (← (total-ones xs), ← (below-all each n xs low)) (fewer-below id none n lt)

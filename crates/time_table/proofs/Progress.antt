@@ -18,13 +18,18 @@ use Rattle.time_table.specs.Held.{Held}
 use Rattle.time_table.specs.Rows.{emptyRow, rowsOf, tableOf, Clean}
 use Rattle.time_table.specs.Table.{judged, verdict}
 use Rattle.time_table.specs.Adjustments.{emptyPart, heldParts, partsIn, adjustments, removedParts, addedParts}
-use Rattle.time_table.specs.Insertion.{insertion}
-use Rattle.time_table.specs.Removal.{removal}
+use Rattle.time_table.specs.Order.{Each}
+use Rattle.time_table.specs.Meaning.{Runs}
+use Rattle.time_table.specs.Insertion.{insertion, Insertable}
+use Rattle.time_table.specs.Removal.{removal, Removable}
 use Rattle.time_table.specs.Stepping.{stepAt}
 use Rattle.time_table.specs.Update.{after, overAfter, updateOver, updatedRows, updated, Updatable}
 use Rattle.time_table.proofs.Editing.{stepped, CanStep, Puts, Takes, Editable}
+use Rattle.time_table.proofs.Held.{held-next, held-end}
 use Rattle.time_table.proofs.Front.{Cleared}
-use Rattle.time_table.proofs.Edits.{Down, down-on, over-here, rows-of, table-self, part-next, part-end, Fitting, remove-first, insert-first, remove-on, insert-on}
+use Rattle.time_table.proofs.Edits.{Down, down-on, over-here, rows-of, table-self, Fitting}
+use Rattle.time_table.proofs.Steps.{edit-on}
+use Rattle.time_table.proofs.EditRight.{each-insertable, each-removable, insertion-right, removal-right}
 use Rattle.time_table.proofs.Updates.{left-held, parts-in, update-removes, update-adds}
 use Rattle.time_table.proofs.Sums.{lt-or-le}
 
@@ -67,7 +72,7 @@ module _ (a : MandatoryPartAdjustments) (t : Table) where
   enters : {k : ℕ} {now : Table} → heldParts (a .removed) (partsIn (a .removed)) → a .removed .count ≤ k → Removing k now → Adding k now
   unfolding after overAfter
   enters {k} {now} held le r =
-      let down : Down removal (partsIn (a .removed)) t [] now = rw (part-end (a .removed) k held le) at (r .down) in
+      let down : Down removal (partsIn (a .removed)) t [] now = rw (held-end held k le) at (r .down) in
       let is : now ≡ tableOf (after removal (partsIn (a .removed)) (rowsOf t)) = sym (table-self now (r .editable .clean)) ∙ ap tableOf (sym (down .rows)) in
       let none : k - a .removed .count ≡ 0 = omega (arith, r .few) in
       record {
@@ -100,6 +105,10 @@ module _ (a : MandatoryPartAdjustments) (t : Table) where
     pub is : now ≡ cond over t (tableOf rowsAll)
     pub clean : Clean now
 
+  can-step : {E : Part → Runs → Runs → Type 0} {p : Part} {ps : List Part} {now : Table} {taking : Bool} → Editable E (p ∷ ps) now
+      → (taking ≡ true → Each (Removable p) (rowsOf now)) → (taking ≡ false → Each (Insertable p) (rowsOf now)) → CanStep (record { part = p; taking = taking }) now
+  can-step s out into = record { arranged = record { clean = s .clean; ordered = s .right .ordered }; some = s .steps .of .some; out = out; into = into }
+
   fitting : {rows l : List Row} {n : ℕ} → Held 128 emptyRow rows n l → Fitting (tabled rows n) l
   fitting h = record { few = omega (arith, h .counts, h .fits); is = λ i. record { rows = h .is i; count = h .counts i } }
 
@@ -109,12 +118,11 @@ module _ (a : MandatoryPartAdjustments) (t : Table) where
     removing-turn lt r =
         let part = getD (a .removed .parts) k emptyPart in
         let rest = drop (k + 1) (partsIn (a .removed)) in
-        let first = part-next (a .removed) k (p .removed) lt in
+        let first = held-next (p .removed) emptyPart k lt in
         let editable : Editable Takes (part ∷ rest) now = rw first at (r .editable) in
         let down : Down removal (partsIn (a .removed)) t (part ∷ rest) now = rw first at (r .down) in
-        let can = remove-first part rest now editable in
         record {
-          can = record { arranged = can .arranged; some = can .some; out = λ e. can .each; into = λ e. absurd (true≢false e) };
+          can = can-step editable (λ e. each-removable (editable .runs) (editable .steps .next) (editable .usage) (rowsOf now) (editable .right) (editable .within) part (editable .steps .of) (editable .steps .goes)) (λ e. absurd (true≢false e));
           over = λ long. rw (down .over ∙ over-here removal part rest (rowsOf now) long);
           next = λ rows n h.
               record {
@@ -122,7 +130,7 @@ module _ (a : MandatoryPartAdjustments) (t : Table) where
                 added = p .added;
                 phase = inl (record {
                   few = omega arith;
-                  editable = remove-on part rest now (tabled rows n) editable (fitting h);
+                  editable = edit-on Takes removal removal-right part rest now (tabled rows n) editable (fitting h);
                   down = down-on removal part rest (tabled rows n) down (fitting h);
                   later = r .later;
                 });
@@ -137,14 +145,13 @@ module _ (a : MandatoryPartAdjustments) (t : Table) where
         let part = getD (a .added .parts) j emptyPart in
         let rest = drop (j + 1) (partsIn (a .added)) in
         let within : j < a .added .count = omega (arith, g .many) in
-        let first = part-next (a .added) j (p .added) within in
+        let first = held-next (p .added) emptyPart j within in
         let editable : Editable Puts (part ∷ rest) now = rw first at (g .editable) in
         let down : Down insertion (partsIn (a .added)) (g .mid) (part ∷ rest) now = rw first at (g .down) in
-        let can = insert-first part rest now editable in
         let onward : k + 1 - a .removed .count ≡ j + 1 = omega (arith, g .many) in
         let begun : rowsOf (g .mid) ≡ after removal (partsIn (a .removed)) (rowsOf t) = rw (g .is) (rows-of _) in
         record {
-          can = record { arranged = can .arranged; some = can .some; out = λ e. absurd (false≢true e); into = λ e. can .each };
+          can = can-step editable (λ e. absurd (false≢true e)) (λ e. each-insertable (editable .runs) (editable .steps .next) (editable .usage) (rowsOf now) (editable .right) (editable .within) part (editable .steps .of) (editable .steps .goes));
           over = λ long. rw (g .fits, ← begun, down .over ∙ over-here insertion part rest (rowsOf now) long);
           next = λ rows n h.
               record {
@@ -155,7 +162,7 @@ module _ (a : MandatoryPartAdjustments) (t : Table) where
                   mid = g .mid;
                   fits = g .fits;
                   is = g .is;
-                  editable = rw onward (insert-on part rest now (tabled rows n) editable (fitting h));
+                  editable = rw onward (edit-on Puts insertion insertion-right part rest now (tabled rows n) editable (fitting h));
                   down = rw onward (down-on insertion part rest (tabled rows n) down (fitting h));
                 });
               };
@@ -176,7 +183,7 @@ module _ (a : MandatoryPartAdjustments) (t : Table) where
         let g = adding p (omega arith) in
         let j = k - a .removed .count in
         let past : a .added .count ≤ j = omega (arith, g .many) in
-        let down : Down insertion (partsIn (a .added)) (g .mid) [] now = rw (part-end (a .added) j (p .added) past) at (g .down) in
+        let down : Down insertion (partsIn (a .added)) (g .mid) [] now = rw (held-end (p .added) j past) at (g .down) in
         let begun : rowsOf (g .mid) ≡ after removal (partsIn (a .removed)) (rowsOf t) = rw (g .is) (rows-of _) in
         record {
           is-over = rw (g .fits, ← begun, down .over) refl;

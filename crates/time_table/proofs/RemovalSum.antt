@@ -1,7 +1,7 @@
 -- What a removal takes from the sums at each instant: v where the part is and a row is, and nothing elsewhere.
 -- Assumes nothing.
-use mathlib.Core.Path.{_≡_, refl}
-use mathlib.Core.Bool.{Bool, true, false, cond}
+use mathlib.Core.Path.{_≡_, refl, sym}
+use mathlib.Core.Bool.{cond}
 use mathlib.Core.Logic.{⊎-elim}
 use mathlib.Core.List.{List, [], _∷_}
 use Prim.Native.Nat.{ℕ, _+_, _-_, _≤_, _<_, min, max}
@@ -15,6 +15,7 @@ use Rattle.time_table.specs.Removal.{without, lessened, reduced, removal
 use Rattle.time_table.specs.Meaning.{has, summed}
 use Rattle.time_table.proofs.Sums.{summed-append, summed-cut, three, lt-or-le, by-place, has-in, has-below, has-above, has-none}
 use Rattle.time_table.proofs.Lessened.{lessened-flat, lessened-apart, lessened-is}
+use Rattle.time_table.proofs.Bits.{cond-same}
 
 -- where a part meets a row, f falls by v without the task, and a row that has no height left is v high in f
 pub record Lessens (f : Row → ℕ) (v : ℕ) (p : Part) (r : Row) : Type 0 where
@@ -32,17 +33,13 @@ module _ (f : Row → ℕ) (t v : ℕ) (p : Part) (kept : (r : Row) (x y : ℕ) 
       (λ lt. elim (ℕ-discrete (r .height) (p .usage)) [
         | yes e ↦
             let none-left : f r - v ≡ 0 = omega (arith, l .flat lt e) in
-            rw (lessened-flat p r e, none-left) (zeros (has x y t))
+            rw (lessened-flat p r e, none-left) (sym (cond-same (has x y t) 0))
         | no ne ↦
             let less : f (without r (p .id) (p .usage)) ≡ f r - v = omega (arith, l .falls lt) in
             rw (lessened-is p r ne, summed-cut f t kept (without r (p .id) (p .usage)) x y, less)
       ])
       (λ ge. rw (lessened-apart p r ge, has-none x y t ge))
       (lt-or-le x y)
-    where
-      zeros : (b : Bool) → _≡_ {A = ℕ} 0 (cond b 0 0)
-      zeros true = refl
-      zeros false = refl
 
   -- what is left of a row, and v where the part goes through it, are the row
   back : (r : Row) → Lessens f v p r

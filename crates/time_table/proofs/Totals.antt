@@ -3,7 +3,7 @@
 use mathlib.Core.Path.{_≡_, refl, sym, ap, _∙_}
 use mathlib.Core.Bool.{Bool, true, false, cond}
 use mathlib.Core.List.{List, [], _∷_, _++_}
-use Prim.Native.Nat.{ℕ, zero, suc, _+_, _-_, _<_}
+use Prim.Native.Nat.{ℕ, zero, suc, _+_, _-_, _<_, _*_, _≤_}
 use native.Mathlib.Nat.{zero-add, add-assoc, add-zero, not-suc-le-zero, le-of-suc-le-suc}
 use native.Mathlib.Decide.{ℕ-discrete}
 use native.Mathlib.Omega.{arith}
@@ -34,6 +34,17 @@ module _ (u : ℕ → ℕ) where
   total-last xs k e =
       let split : xs ≡ take k xs ++ getD xs k 0 ∷ [] = sym (take-all (suc k) xs (omega arith)) ∙ take-suc xs k 0 (omega arith) in
       omega (arith, total-append (take k xs) (getD xs k 0 ∷ []), ap (total u) split)
+
+-- shares that are at most m, and that are 1
+pub total-bound : (u : ℕ → ℕ) (m : ℕ) → ((x : ℕ) → u x ≤ m) → (xs : List ℕ) → total u xs ≤ length xs * m
+unfolding total
+total-bound u m le [] = omega arith
+total-bound u m le (x ∷ xs) = omega (arith, le x, total-bound u m le xs)
+
+pub total-ones : (xs : List ℕ) → total (λ (x : ℕ). 1) xs ≡ length xs
+unfolding total
+total-ones [] = refl
+total-ones (x ∷ xs) = omega (arith, total-ones xs)
 
 -- the first `id` of a list is at its position
 pub position-is : (id : ℕ) (xs : List ℕ) → position id xs < length xs → getD xs (position id xs) 0 ≡ id

@@ -1,7 +1,7 @@
 -- An update of a table: the removed parts lead from the old part to what both parts share, and the added ones from there to the new part.
 -- Assumes nothing.
 use mathlib.Core.Path.{_≡_, refl, sym, _∙_}
-use mathlib.Core.Bool.{Bool, _||_, true, false, true≢false}
+use mathlib.Core.Bool.{false, true≢false}
 use mathlib.Core.Logic.{⊎-elim}
 use mathlib.Core.List.{List, [], _∷_}
 use Prim.Native.Nat.{ℕ, _≤_}
@@ -22,10 +22,12 @@ use Rattle.time_table.proofs.Editing.{Puts, Takes, Editable}
 use Rattle.time_table.proofs.Held.{held-as}
 use Rattle.time_table.proofs.Adjusted.{stretch-none, stretch-some}
 use Rattle.time_table.proofs.Left.{left}
-use Rattle.time_table.proofs.Steps.{removals-right}
+use Rattle.time_table.proofs.Steps.{edits-right}
+use Rattle.time_table.proofs.EditRight.{removal-right}
 use Rattle.time_table.proofs.AdjustedRight.{both, removed-steps, added-steps, moved-within, adjusted-right}
 use Rattle.time_table.proofs.Edits.{rows-of, clean-of}
 use Rattle.time_table.proofs.Sums.{lt-or-le}
+use Rattle.time_table.proofs.Bits.{neither}
 
 -- an adjustment has two parts at most on each side
 stretch-short : (p : Part) (x y : ℕ) → length (stretch p x y) ≤ 1
@@ -78,16 +80,12 @@ module _ (old new : Part) (t : Table) (u : Updatable old new t) where
         usage = u .usage;
         last = moved (old .id) (has (new .from) (new .until)) (u .runs);
         clean = clean-of (after removal ps (rowsOf t)) short;
-        right = rw (rows-of (after removal ps (rowsOf t))) (removals-right (u .usage) (e .last) ps (e .runs) (rowsOf t) (e .steps) (e .within) (e .right));
+        right = rw (rows-of (after removal ps (rowsOf t))) (edits-right Takes removal removal-right (u .usage) (e .last) ps (e .runs) (rowsOf t) (e .steps) (e .within) (e .right));
         within = moved-within (old .id) (u .runs) (u .usage) (both old new) (u .task) (rw (← (u .of)) (u .draws)) (u .within);
         steps = added-steps (old .id) (u .runs) (u .usage) (u .task) (rw (← (u .of)) (u .draws)) (u .within) old new refl (u .same) (u .of) (u .equal ∙ u .of) (u .low) (u .high);
       })
 
 -- what the answer of an update says
-neither : (a b : Bool) → (a || b) ≡ false → (a ≡ false) × (b ≡ false)
-neither true b e = absurd (true≢false e)
-neither false b e = (refl, e)
-
 module _ (old new : Part) (t : Table) where
   -- it fits, and each of its parts did
   pub record UpdateFits (now : Table) : Type 0 where

@@ -1,10 +1,10 @@
 -- `rows` meets its contract: the planner's rows are written, and the session stays.
 -- Assumes nothing.
-use Rattle.command.specs.Text.{Shown}
+use Rattle.planner.specs.Shown.{Shown}
 use Rattle.planner.specs.declared.Rows.{Rows}
 use mathlib.Core.Path.{sym, subst}
 use Rattle.command.proofs.Outcomes.{rows-given}
-use Rattle.command.proofs.ShownRows.{shown-rows}
+use Rattle.planner.proofs.ShownRows.{shown-rows}
 use borrow.Author.Needs.{needs}
 use native.Mathlib.Omega.{arith}
 use Rattle.command.proofs.commands.rows.Statement.{statement}

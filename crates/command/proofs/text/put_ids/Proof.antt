@@ -2,13 +2,14 @@
 -- Assumes nothing.
 use mathlib.Core.Path.{_≡_}
 use Prim.Native.Nat.{_-_, _+_, _*_, _≤_}
+use mathlib.Core.List.{flatMap}
 use lib.ListN.{take, getD}
 use Rattle.time_table.proofs.Held.{held-length}
-use Rattle.command.specs.Text.{textOf, idText, idsText}
+use Rattle.command.specs.Text.{idText, idsText}
 use Rattle.command.specs.Written.{Written}
 use Rattle.command.proofs.Writing.{written-none, written-length, written-more}
 use Rattle.command.proofs.Digits.{decimal-short}
-use Rattle.command.proofs.Texts.{texts-more}
+use Rattle.time_table.proofs.Mapped.{flat-take}
 use borrow.Author.Needs.{needs}
 use native.Mathlib.Omega.{arith}
 use Rattle.command.proofs.text.put_ids.Statement.{statement}
@@ -21,7 +22,7 @@ abbrev μ-loop : tie.MeasureT-loop
 μ-loop out₀ from ids n at₀ i₀ out at i = n - i
 
 loop-holds : tie.Need-loop-holds Inv-loop μ-loop
-unfolding textOf
+unfolding flatMap
 loop-holds c = (omega arith, omega arith, written-none _ _ (omega (arith, c .before .before .pre .1)))
 
 array-read-put-next : tie.Need-array-read-put-next Inv-loop μ-loop
@@ -58,7 +59,7 @@ loop-again c =
     let lt = p .before .before .loop-test .taken in (
       omega (arith, lt),
       omega (arith, p .put-next .ensures .place, l .loop .inv .1, decimal-short (getD (s .args .row .ids) (l .loop .i) 0) (cast-put-next (p .before) .fits)),
-      rw (texts-more idText (s .args .row .ids) (l .loop .i) 0 (omega (arith, lt, s .pre .0 .fits, held-length (s .pre .0)))) (written-more (l .loop .inv .2) (p .put-next .ensures)),
+      rw (flat-take idText (s .args .row .ids) (l .loop .i) 0 (omega (arith, lt, s .pre .0 .fits, held-length (s .pre .0)))) (written-more (l .loop .inv .2) (p .put-next .ensures)),
     )
 
 same-length : tie.Need-same-length Inv-loop μ-loop

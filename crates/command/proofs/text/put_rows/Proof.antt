@@ -1,17 +1,16 @@
 -- `put_rows` meets its contract: the rows passed are written, one behind the other, and each takes at most 400 bytes.
 -- Assumes nothing.
-use mathlib.Core.Path.{_≡_, subst}
-use mathlib.Core.List.{[]}
+use mathlib.Core.Path.{_≡_}
+use mathlib.Core.List.{[], flatMap}
 use Prim.Native.Nat.{_-_, _+_, _*_, _≤_, _<_}
 use lib.IntN.{pos}
 use lib.ListN.{length, take}
 use Rattle.time_table.proofs.Held.{held-length}
 use Rattle.planner.specs.declared.RowRecord.{RowRecord}
-use Rattle.planner.specs.Records.{noRecord}
-use Rattle.command.specs.Text.{textOf, rowText, rowsText, heldIds}
+use Rattle.command.specs.Text.{rowText, rowsText}
 use Rattle.command.specs.Written.{Written}
 use Rattle.command.proofs.Writing.{written-none, written-length, written-more}
-use Rattle.command.proofs.Texts.{getD-within, texts-more}
+use Rattle.time_table.proofs.Mapped.{flat-take}
 use borrow.Author.Needs.{needs}
 use native.Mathlib.Omega.{arith}
 use Rattle.command.proofs.text.put_rows.Statement.{statement}
@@ -33,7 +32,7 @@ inside c =
     omega (arith, c .loop-test .taken, s .pre .0 .held .fits, held-length (s .pre .0 .held))
 
 loop-holds : tie.Need-loop-holds Inv-loop μ-loop
-unfolding textOf
+unfolding flatMap
 loop-holds c = (omega arith, omega arith, written-none _ _ (omega (arith, c .before .pre .1)))
 
 mul-row : tie.Need-mul-row Inv-loop μ-loop
@@ -47,7 +46,7 @@ put-row-requires c κs =
     let t = c .before .before in
     let l = t .before in
     let s = l .before .before in (
-      subst heldIds (getD-within (s .args .t3 .rows) (l .loop .i) noRecord unread (inside t)) (s .pre .0 .ids (l .loop .i) (t .loop-test .taken)),
+      s .pre .0 .ids unread (l .loop .i) (t .loop-test .taken),
       omega (arith, t .loop-test .taken, s .pre .0 .held .fits, s .pre .1, l .loop .inv .1, written-length (l .loop .inv .2)),
     )
 
@@ -65,7 +64,7 @@ loop-again c =
     let s = l .before .before in (
       omega (arith, t .loop-test .taken),
       omega (arith, p .put-row .ensures .1, l .loop .inv .1),
-      rw (texts-more rowText (s .args .t3 .rows) (l .loop .i) unread (inside t)) (written-more (l .loop .inv .2) (p .put-row .ensures .0)),
+      rw (flat-take rowText (s .args .t3 .rows) (l .loop .i) unread (inside t)) (written-more (l .loop .inv .2) (p .put-row .ensures .0)),
     )
 
 same-length : tie.Need-same-length Inv-loop μ-loop

@@ -67,7 +67,8 @@ use Rattle.lent.specs.Copies.{noRow, copyAnswer, copied}
 use Rattle.lent.proofs.Says.{says2}
 use Rattle.lent.proofs.Locals.{nthTy}
 use Rattle.lent.proofs.Tests.{tests}
-use Rattle.lent.proofs.Copying.{copied-length, count-places, count-rows, shown-few}
+use Rattle.lent.proofs.Copying.{copied-length, count-places, count-rows}
+use Rattle.planner.proofs.ShownRows.{shown-rows}
 use Rattle.lent.proofs.Copied as N
 use Rattle.lent.proofs.Copied.Laws as N′
 use Rattle.lent.proofs.rows.check_copy as check
@@ -185,7 +186,7 @@ module _ {M : Type 1} (𝓤 : URA M) (H : Heap 𝓤) (A : Atoms 𝓤) (W : Given
       fits-in = subst (λ (u : Copied). u .count ≤ length ys) (sym told) (count-places t (length ys))
 
       few : n ≤ rows-max
-      few = le-trans (subst (λ (u : Copied). u .count ≤ t .count) (sym told) (count-rows t (length ys))) (subst (λ (u : Rows). u .count ≤ rows-max) (sym shown) (shown-few p ready))
+      few = le-trans (subst (λ (u : Copied). u .count ≤ t .count) (sym told) (count-rows t (length ys))) (subst (λ (u : Rows). u .count ≤ rows-max) (sym shown) (shown-rows p ready .held .fits))
 
       n-fits : n < 2 ^ 64
       n-fits = lt-of-le-of-lt few (lit< tt)

@@ -12,7 +12,7 @@ use Rattle.time_table.proofs.Held.{held-as, held-push, held-length}
 use Rattle.planner.specs.Records.{recordOf, noRecord}
 use Rattle.planner.specs.Sound.{Live}
 use Rattle.planner.specs.Questions.{rowsShown}
-use Rattle.planner.proofs.Mapped.{map-take}
+use Rattle.time_table.proofs.Mapped.{map-take}
 use Rattle.planner.proofs.Limits.{row-low}
 use Rattle.planner.specs.declared.Checked.the-variants.{Accepted}
 use borrow.Author.Needs.{needs}

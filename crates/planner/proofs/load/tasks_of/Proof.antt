@@ -11,7 +11,7 @@ use Rattle.sweep.specs.Tasks.{noTask}
 use Rattle.planner.specs.Given.{noJob}
 use Rattle.planner.specs.Loads.{taskOf, jobsOf}
 use Rattle.planner.proofs.InputOrder.{jobs-accepted}
-use Rattle.planner.proofs.Mapped.{map-take}
+use Rattle.time_table.proofs.Mapped.{map-take}
 use borrow.Author.Needs.{needs}
 use native.Mathlib.Omega.{arith}
 use Rattle.planner.proofs.load.tasks_of.Statement.{statement}

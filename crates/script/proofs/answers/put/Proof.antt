@@ -2,7 +2,6 @@
 -- Assumes nothing.
 use mathlib.Core.Path.{sym}
 use mir.Facts.{toZ-ofZ}
-use Rattle.script.specs.Pages.{put}
 use Rattle.script.proofs.Pages.{put-room, put-full}
 use borrow.Author.Needs.{needs}
 use Rattle.script.proofs.answers.put.Statement.{statement}

@@ -3,13 +3,13 @@
 use mathlib.Core.Path.{_≡_, refl, sym, ap, _∙_}
 use Prim.Native.Nat.{_-_, _≤_}
 use lib.ListN.{length, take, getD, length-map}
-use mathlib.Core.List.{[]}
+use mathlib.Core.List.{[], flatMap}
 use lib.IntN.{pos}
 use Rattle.planner.specs.declared.RowRecord.{RowRecord}
 use Rattle.script.specs.Numbers.{rowNumbers, each}
 use Rattle.script.specs.Pages.{Page, pageOf, puts}
 use Rattle.script.proofs.Pages.{puts-append}
-use Rattle.script.proofs.Rows.{each-next}
+use Rattle.time_table.proofs.Mapped.{flat-take}
 use native.Mathlib.Omega.{arith}
 use Rattle.script.proofs.answers.put_each.Statement.{statement}
 use Rattle.script.proofs.answers.put_each.Tie as tie
@@ -28,19 +28,19 @@ room : (c : tie.Start Inv-loop μ-loop) → length (c .args .t3 .rows) ≡ 128
 room c = simp length-map at (c .good .1 .1 .0 .1 .1 .0 .1 .0 .1)
 
 loop-holds : tie.Need-loop-holds Inv-loop μ-loop
-unfolding puts each
+unfolding puts flatMap
 loop-holds c = (omega arith, refl, refl, refl)
 
 mul-row : tie.Need-mul-row Inv-loop μ-loop
-mul-row c = omega (arith, c .before .before .pre .few)
+mul-row c = omega (arith, c .before .before .pre .held .fits)
 
 element-copy-out-row : tie.Need-element-copy-out-row Inv-loop μ-loop
-element-copy-out-row c = omega (arith, c .before .before .pre .few)
+element-copy-out-row c = omega (arith, c .before .before .pre .held .fits)
 
 put-row-requires : tie.Need-put-row-requires Inv-loop μ-loop
 put-row-requires c κs =
     let l = c .before .before .before in
-    l .before .pre .lists blank (l .loop .i) (omega arith)
+    l .before .pre .ids blank (l .loop .i) (omega arith) .fits
 
 add-i : tie.Need-add-i Inv-loop μ-loop
 add-i c = omega arith
@@ -61,7 +61,7 @@ loop-again c =
       c .before .put-row .ensures
           ∙ ap (λ (q : Page). puts q numbers) (l .loop .inv .3)
           ∙ sym (puts-append p (each (take (l .loop .i) rows)) numbers)
-          ∙ ap (puts p) (sym (each-next rows (l .loop .i) blank (omega (arith, a .pre .few, room a)))),
+          ∙ ap (puts p) (sym (flat-take rowNumbers rows (l .loop .i) blank (omega (arith, a .pre .held .fits, room a)))),
     )
 
 same-length : tie.Need-same-length Inv-loop μ-loop

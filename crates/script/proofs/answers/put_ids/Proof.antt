@@ -6,7 +6,7 @@ use Prim.Native.Nat.{_-_, _≤_}
 use lib.ListN.{length, take}
 use mir.Syntax.{w32}
 use mir.Facts.{toZ-ofZ}
-use Rattle.planner.proofs.Mapped.{map-take}
+use Rattle.time_table.proofs.Mapped.{map-take}
 use Rattle.script.specs.Numbers.{signedOf}
 use Rattle.script.specs.Pages.{pageOf, put, puts}
 use Rattle.script.proofs.Pages.{puts-next}

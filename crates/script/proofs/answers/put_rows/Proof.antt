@@ -8,7 +8,7 @@ use mir.Syntax.{w32}
 use mir.Facts.{toZ-ofZ}
 use Rattle.script.specs.Numbers.{each}
 use Rattle.script.specs.Pages.{Page, pageOf, puts}
-use Rattle.script.proofs.Rows.{rows-shown}
+use Rattle.planner.proofs.ShownRows.{shown-rows}
 use borrow.Author.Needs.{needs}
 use Rattle.script.proofs.answers.put_rows.Statement.{statement}
 use Rattle.script.proofs.answers.put_rows.Tie as tie
@@ -34,7 +34,7 @@ put-two-requires c κs = search needs
 put-each-requires : tie.Need-put-each-requires
 put-each-requires c κs =
     let m = c .before .before .before .before .before .before .before in
-    rw (m .rows .ensures) (rows-shown (m .before .args .plan) (m .before .pre))
+    rw (m .rows .ensures) (shown-rows (m .before .args .plan) (m .before .pre))
 
 same-length : tie.Need-same-length
 same-length c = search needs

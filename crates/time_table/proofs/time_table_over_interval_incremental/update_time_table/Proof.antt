@@ -208,7 +208,7 @@ array-copy-out-next-2 c = omega (arith, inside (c .before .before), c .before .b
 read : (c : tie.Joined8 Inv-loop μ-loop Inv-loop3 μ-loop3 Inv-loop2 μ-loop2 Inv-loop4 μ-loop4 Inv-parts μ-parts Inv-loop5 μ-loop5) → c .if8 .next ≡ rowAt (c .before .before .before .before .before .before .before .before .before .parts .rows) (c .before .before .before .before .loop2 .i)
 read c =
     let l = c .before .before .before .before .loop2 in
-    ⊎-elim (λ w. w .2 ∙ l .inv .4 .same (w .0 .taken) (l .i) (omega arith)) (λ w. w .1 ∙ front-behind (l .inv .1 .front) (l .i) (w .0 .left)) (c .if8 .came)
+    ⊎-elim (λ w. w .2 ∙ l .inv .4 .same (w .0 .taken) (l .i) (omega arith)) (λ w. w .1 ∙ front-behind (l .inv .1 .front) _ (l .i) (w .0 .left)) (c .if8 .came)
 
 is-untouched-requires : tie.Need-is-untouched-requires Inv-loop μ-loop Inv-loop3 μ-loop3 Inv-loop2 μ-loop2 Inv-loop4 μ-loop4 Inv-parts μ-parts Inv-loop5 μ-loop5
 is-untouched-requires c κs = search needs
@@ -279,60 +279,44 @@ loop2-again-5 c =
     let m = c .before .loop3 .inv .0 _ (entered (c .before .before)) in
     (c .before .before .before .before .before .before .before .before .before .loop2 .inv .0, m .laid, λ x le lt. absurd (omega (arith, c .loop3-test .left)), c .before .loop3 .inv .1 ∙ c .before .before .before .before .before .before .before .before .before .loop2 .inv .3, m .kept)
 
+-- and while rows move
+moving : (c : tie.In-loop3 Inv-loop μ-loop Inv-loop3 μ-loop3 Inv-loop2 μ-loop2 Inv-loop4 μ-loop4 Inv-parts μ-parts Inv-loop5 μ-loop5) → Moves (c .before .before .before .before .before .before .before .before .before .before .before .before .step-at .result) (tabled (c .before .before .before .before .before .before .before .before .before .before .before .before .before .before .parts .rows) (c .before .before .before .before .before .before .before .before .before .before .before .before .before .before .parts .count)) (c .before .before .before .before .before .before .before .before .before .loop2 .source) (c .before .loop3 .rows) (c .before .loop3 .n) (c .before .before .before .before .before .before .before .before .before .loop2 .from) (c .before .loop3 .i) (c .before .before .before .before .before .before .before .before .before .loop2 .row) (c .before .before .before .before .before .before .before .before .before .loop2 .came) (c .before .before .before .before .before .before .before .before .before .loop2 .j)
+moving c = c .before .loop3 .inv .0 _ (entered (c .before .before))
+
 -- without a place it is over
 row-too-many : (c : tie.Then11 Inv-loop μ-loop Inv-loop3 μ-loop3 Inv-loop2 μ-loop2 Inv-loop4 μ-loop4 Inv-parts μ-parts Inv-loop5 μ-loop5) → overAll (c .before .before .before .before .before .before .before .before .before .before .before .before .before .before .before .before .before .before .before .get-mandatory-part-adjustments .result) (c .before .before .before .before .before .before .before .before .before .before .before .before .before .before .before .before .before .before .before .before .args .table) ≡ true
 row-too-many c =
     c .before .before .before .before .before .before .before .before .before .before .loop2 .inv .0 .over (row-over (c .before .before .loop3 .inv .0 _ (entered (c .before .before .before))) (c .before .loop3-test .taken) (omega arith))
 
 mul-moved : tie.Need-mul-moved Inv-loop μ-loop Inv-loop3 μ-loop3 Inv-loop2 μ-loop2 Inv-loop4 μ-loop4 Inv-parts μ-parts Inv-loop5 μ-loop5
-mul-moved c =
-    let m = c .before .before .before .loop3 .inv .0 _ (entered (c .before .before .before .before)) in
-    omega (arith, m .can .arranged .clean .fits)
+mul-moved c = omega (arith, moving (c .before .before) .can .arranged .clean .fits)
 
 array-copy-out-moved : tie.Need-array-copy-out-moved Inv-loop μ-loop Inv-loop3 μ-loop3 Inv-loop2 μ-loop2 Inv-loop4 μ-loop4 Inv-parts μ-parts Inv-loop5 μ-loop5
-array-copy-out-moved c =
-    let m = c .before .before .before .loop3 .inv .0 _ (entered (c .before .before .before .before)) in
-    omega (arith, m .can .arranged .clean .fits)
+array-copy-out-moved c = omega (arith, moving (c .before .before) .can .arranged .clean .fits)
 
 mul-rows-2 : tie.Need-mul-rows-2 Inv-loop μ-loop Inv-loop3 μ-loop3 Inv-loop2 μ-loop2 Inv-loop4 μ-loop4 Inv-parts μ-parts Inv-loop5 μ-loop5
-mul-rows-2 c =
-    let m = c .before .before .before .before .loop3 .inv .0 _ (entered (c .before .before .before .before .before)) in
-    omega (arith, m .laid .front .fits)
+mul-rows-2 c = omega (arith, moving (c .before .before .before) .laid .front .fits)
 
 array-set-from-rows-2 : tie.Need-array-set-from-rows-2 Inv-loop μ-loop Inv-loop3 μ-loop3 Inv-loop2 μ-loop2 Inv-loop4 μ-loop4 Inv-parts μ-parts Inv-loop5 μ-loop5
-array-set-from-rows-2 c =
-    let m = c .before .before .before .before .loop3 .inv .0 _ (entered (c .before .before .before .before .before)) in
-    omega (arith, m .laid .front .fits, c .before .before .if11 .left)
+array-set-from-rows-2 c = omega (arith, moving (c .before .before .before) .laid .front .fits, c .before .before .if11 .left)
 
 mul-moved-2 : tie.Need-mul-moved-2 Inv-loop μ-loop Inv-loop3 μ-loop3 Inv-loop2 μ-loop2 Inv-loop4 μ-loop4 Inv-parts μ-parts Inv-loop5 μ-loop5
-mul-moved-2 c =
-    let m = c .before .before .before .loop3 .inv .0 _ (entered (c .before .before .before .before)) in
-    omega (arith, m .can .arranged .clean .fits)
+mul-moved-2 c = omega (arith, moving (c .before .before) .can .arranged .clean .fits)
 
 array-copy-out-moved-2 : tie.Need-array-copy-out-moved-2 Inv-loop μ-loop Inv-loop3 μ-loop3 Inv-loop2 μ-loop2 Inv-loop4 μ-loop4 Inv-parts μ-parts Inv-loop5 μ-loop5
-array-copy-out-moved-2 c =
-    let m = c .before .before .before .loop3 .inv .0 _ (entered (c .before .before .before .before)) in
-    omega (arith, m .can .arranged .clean .fits)
+array-copy-out-moved-2 c = omega (arith, moving (c .before .before) .can .arranged .clean .fits)
 
 mul-rows-3 : tie.Need-mul-rows-3 Inv-loop μ-loop Inv-loop3 μ-loop3 Inv-loop2 μ-loop2 Inv-loop4 μ-loop4 Inv-parts μ-parts Inv-loop5 μ-loop5
-mul-rows-3 c =
-    let m = c .before .before .before .before .loop3 .inv .0 _ (entered (c .before .before .before .before .before)) in
-    omega (arith, m .laid .front .fits)
+mul-rows-3 c = omega (arith, moving (c .before .before .before) .laid .front .fits)
 
 array-set-from-rows-3 : tie.Need-array-set-from-rows-3 Inv-loop μ-loop Inv-loop3 μ-loop3 Inv-loop2 μ-loop2 Inv-loop4 μ-loop4 Inv-parts μ-parts Inv-loop5 μ-loop5
-array-set-from-rows-3 c =
-    let m = c .before .before .before .before .loop3 .inv .0 _ (entered (c .before .before .before .before .before)) in
-    omega (arith, m .laid .front .fits, c .before .before .if11 .left)
+array-set-from-rows-3 c = omega (arith, moving (c .before .before .before) .laid .front .fits, c .before .before .if11 .left)
 
 add-n-2 : tie.Need-add-n-2 Inv-loop μ-loop Inv-loop3 μ-loop3 Inv-loop2 μ-loop2 Inv-loop4 μ-loop4 Inv-parts μ-parts Inv-loop5 μ-loop5
-add-n-2 c =
-    let m = c .before .before .before .loop3 .inv .0 _ (entered (c .before .before .before .before)) in
-    omega (arith, m .laid .front .fits)
+add-n-2 c = omega (arith, moving (c .before .before) .laid .front .fits)
 
 add-i-2 : tie.Need-add-i-2 Inv-loop μ-loop Inv-loop3 μ-loop3 Inv-loop2 μ-loop2 Inv-loop4 μ-loop4 Inv-parts μ-parts Inv-loop5 μ-loop5
-add-i-2 c =
-    let m = c .before .before .before .loop3 .inv .0 _ (entered (c .before .before .before .before)) in
-    omega (arith, m .can .arranged .clean .fits)
+add-i-2 c = omega (arith, moving (c .before .before) .can .arranged .clean .fits)
 
 loop3-less : tie.Need-loop3-less Inv-loop μ-loop Inv-loop3 μ-loop3 Inv-loop2 μ-loop2 Inv-loop4 μ-loop4 Inv-parts μ-parts Inv-loop5 μ-loop5
 loop3-less c = omega arith
@@ -345,7 +329,7 @@ loop3-again c =
           let room : l .n < 128 = omega (arith, m .laid .front .fits, c .before .if11 .left) in
           ⊎-elim
           (λ w. rw (w .2) (moves-on m (c .before .before .loop3-test .taken) room _ (m .kept .same (w .0 .taken) (l .i) (omega arith))))
-          (λ w. rw (w .2) (moves-on m (c .before .before .loop3-test .taken) room _ (front-behind (m .laid .front) (l .i) (w .0 .left))))
+          (λ w. rw (w .2) (moves-on m (c .before .before .loop3-test .taken) room _ (front-behind (m .laid .front) _ (l .i) (w .0 .left))))
           (c .if12 .came),
       l .inv .1,
     )
@@ -375,7 +359,7 @@ loop4-holds c =
     let tn = l .inv .0 in
     let none = ltb-false _ _ (c .before .before .if3 .left) in
     let all : c .before .before .before .before .before .before .before .before .before .parts .count ≤ c .before .before .before .before .loop2 .i = omega (arith, c .before .before .before .if2 .left) in
-    let whole : Front (c .before .before .before .before .before .before .before .before .before .parts .rows) (c .if13 .rows) (c .if13 .n) (stepped (c .before .before .before .before .before .before .before .step-at .result) (c .before .before .before .before .before .before .before .step-at .result .part .from) (rowsOf (tabled (c .before .before .before .before .before .before .before .before .before .parts .rows) (c .before .before .before .before .before .before .before .before .before .parts .count)))) =
+    let whole : Front 128 (c .before .before .before .before .before .before .before .before .before .parts .rows) (c .if13 .rows) (c .if13 .n) (stepped (c .before .before .before .before .before .before .before .step-at .result) (c .before .before .before .before .before .before .before .step-at .result .part .from) (rowsOf (tabled (c .before .before .before .before .before .before .before .before .before .parts .rows) (c .before .before .before .before .before .before .before .before .before .parts .count)))) =
     ⊎-elim
     (λ w. rw (w .3, w .4) (last-some _ _ (tn .can) (l .inv .1) none all _ (c .before .last-profile .ensures) (w .0 .taken) (omega (arith, l .inv .1 .front .fits, w .1 .left))))
     (λ w. rw (w .1, w .2) (last-none _ _ (tn .can) (l .inv .1) none all _ (c .before .last-profile .ensures) (w .0 .left)))
