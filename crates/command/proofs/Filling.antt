@@ -1,4 +1,4 @@
--- A line that grows byte by byte.
+-- A byte goes behind the line until that is full, and a line feed ends it, by one step of `filling`.
 -- Assumes nothing.
 use mathlib.Core.Path.{_≡_}
 use mathlib.Core.Bool.{true, false}

@@ -1,4 +1,4 @@
--- How long the texts of answers are.
+-- The text of an answer is as long as its numbers and a byte more for the letter, for each space and for the line feed, since lengths add up.
 -- Assumes nothing.
 use mathlib.Core.Path.{_≡_}
 use Prim.Native.Nat.{ℕ, _+_}

@@ -1,4 +1,5 @@
--- The outcome of each command, from what the planner answered and what was written.
+-- A command gives its outcome, since the planner's answer is the definition's and what was written is the text of that answer; a job is kept or refused
+-- by the definition's own test.
 -- Assumes nothing.
 use mathlib.Core.Path.{_≡_, refl, subst}
 use mathlib.Core.List.{List, []}

@@ -1,4 +1,5 @@
--- How the bytes of a field are read, from left to right.
+-- What is left of a field is the byte at its place and the bytes behind, so each byte is one step of the definition: a digit is put behind the value,
+-- another byte makes it bad, and the end keeps it; a minus in front is the sign.
 -- Assumes nothing.
 use mathlib.Core.Path.{_≡_, refl}
 use mathlib.Core.Bool.{true, false}

@@ -1,4 +1,5 @@
--- What bytes lead to, from what was filled and what was answered.
+-- Serving is `taken` of what was filled: a line with its line feed is answered, and one without is kept; either way a byte that was there has been
+-- passed; and a line that is left at the end is answered if it has bytes.
 -- Assumes nothing.
 use mathlib.Core.Path.{_≡_, refl, sym, ap, _∙_}
 use mathlib.Core.Bool.{Bool, true, false, cond}

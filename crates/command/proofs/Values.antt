@@ -1,4 +1,5 @@
--- The numbers of some fields, and the struct that holds them.
+-- The numbers of some fields are the first field's and then the others', and a struct of four places loses nothing: no letter takes more than four, so
+-- a line with more cannot be read either way.
 -- Assumes nothing.
 use mathlib.Core.Path.{_≡_, refl, sym, ap, _∙_}
 use mathlib.Core.Bool.{true, cond}

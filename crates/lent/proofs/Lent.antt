@@ -1,4 +1,4 @@
--- A struct of plain data in a local, or in a field of one, at the offset o, lent by `&mut` for a lifetime κ of a call, and taken back. It says nothing of the crate, and can be copied as it stands.
+-- A struct of plain data in a local, or in a field of one, at the offset o, lent by `&mut` for a lifetime κ of a call, and taken back.
 -- T is the struct's `the-type`, L its `the-laws`, P its `the-plain`, and τ its `mir` of `Laws`. `same` is shown by `refl`.
 --     lends        given that h is a value of the struct:  its cell at h  ⊢ ⇛ ∃ γ. own (the `&κ mut S` ((l, o), γ, h)) ∗ the lender's part
 --     backs        [†κ] ∗ the lender's part ∗ res γ h  ⊢ ⇛ (h is a value of the struct, and its cell at h)

@@ -1,4 +1,4 @@
--- An array of structs of plain data in a local, lent by `&mut` as a slice for a lifetime κ of a call, and taken back. It says nothing of the crate, and can be copied as it stands.
+-- An array of structs of plain data in a local, lent by `&mut` as a slice for a lifetime κ of a call, and taken back.
 -- T is the element struct's `the-type`, L its `the-laws`, P its `the-plain`, and τ its `mir` of `Laws`. `same` is shown by `λ b o v. refl`.
 --     lends        given that ys is a value of the array type:  the local's cell at ys  ⊢ ⇛ ∃ γ. own (the `&κ mut [S]` ((l, 0), γ, ys)) ∗ the lender's part
 --     backs        [†κ] ∗ the lender's part ∗ finally γ zs  ⊢ ⇛ (zs is a value of the array type, and the local's cell at zs)

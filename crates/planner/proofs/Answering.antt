@@ -1,4 +1,5 @@
--- The two answers of a load or an update, from what a scan or a sweep found.
+-- A scan and a sweep find the row that the definitions find, so whether they found one gives the answer, the row and the plan; and a plan whose table is
+-- live with right rows, or stale with none, is sound.
 -- Assumes nothing.
 use mathlib.Core.Path.{_≡_, sym, ap, _∙_}
 use mathlib.Core.Bool.{Bool, true, false, cond, true≢false, false≢true}

@@ -1,4 +1,5 @@
--- How a script is read: a number's kind, the command at a place by the numbers there, and what of the script it takes.
+-- The command at a place is that of the number there and of those behind it, since what is left of a script from a place on has them in front; and a
+-- number is its own kind unless it is negative, by its sign.
 -- Assumes nothing.
 use mathlib.Core.Path.{_≡_, refl}
 use mathlib.Core.Bool.{true, false, true≢false}

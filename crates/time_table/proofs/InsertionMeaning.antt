@@ -1,5 +1,5 @@
--- What the two edits mean at each instant. An insertion lists the task once more, and adds its usage, where the part is, and changes nothing elsewhere;
--- a removal takes them away again.
+-- An insertion lists the task once more, and adds its usage, where the part is, and nothing elsewhere: a covered piece has the task joined, an
+-- uncovered one has it alone, and a piece that is only cut off keeps what it had.
 -- Assumes nothing.
 use mathlib.Core.Path.{_≡_, refl}
 use mathlib.Core.Bool.{cond}

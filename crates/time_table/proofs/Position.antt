@@ -1,4 +1,4 @@
--- The search for a task's place in a list, element by element.
+-- From a place on a task's position is 0 if the task is there or the list has ended, and else one more than from the next place on, by one step of `position`.
 -- Assumes nothing.
 use mathlib.Core.Path.{_≡_}
 use mathlib.Core.List.{List}

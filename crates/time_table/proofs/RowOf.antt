@@ -1,4 +1,5 @@
--- A row from its parts.
+-- A row is its numbers and its list, since its array is the list and then zeros; with the last id in a task's place and a zero in the last one, the array
+-- holds the list without the task.
 -- Assumes nothing.
 use mathlib.Core.Path.{_≡_}
 use mathlib.Core.List.{List}

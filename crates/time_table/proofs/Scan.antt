@@ -1,4 +1,5 @@
--- The scan for the first row that is too high, row by row.
+-- From a place on the first row that is too high is the one there if it is too high, and else the first from the next place on, by one step of
+-- `conflictIn`; past the last row there is none.
 -- Assumes nothing.
 use mathlib.Core.Path.{_≡_}
 use mathlib.Core.Bool.{true, false}

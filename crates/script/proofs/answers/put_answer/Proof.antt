@@ -1,4 +1,4 @@
--- `put_answer` meets its contract, case by case.
+-- `put_answer` meets its contract: "fits" is 0, "overloaded" is 1 with the row's start, end and height, and a refusal is what `put_refusal` writes.
 -- Assumes nothing.
 use mathlib.Core.Path.{_∙_}
 use mathlib.Core.List.{[], _∷_}

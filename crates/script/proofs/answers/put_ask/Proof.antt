@@ -1,4 +1,4 @@
--- `put_ask` meets its contract, case by case.
+-- `put_ask` meets its contract: each kind of command has the function that writes its answer, and the first fit that is written is the plan's.
 -- Assumes nothing.
 use mathlib.Core.Path.{ap, _∙_}
 use mir.Syntax.{w32}

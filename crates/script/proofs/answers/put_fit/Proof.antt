@@ -1,4 +1,4 @@
--- `put_fit` meets its contract, case by case.
+-- `put_fit` meets its contract: a start is 3 and the start, nowhere is 4, and a refusal is what `put_refusal` writes.
 -- Assumes nothing.
 use mathlib.Core.Path.{_∙_}
 use mathlib.Core.List.{[], _∷_}

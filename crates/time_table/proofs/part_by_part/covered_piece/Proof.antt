@@ -1,4 +1,5 @@
--- `covered_piece` meets its contract: one of two calls.
+-- `covered_piece` meets its contract: where the part is taken out the one call gives the piece without the task, and where it is put in the other gives
+-- the piece with it; `Changeable` has what each call requires.
 -- Assumes nothing.
 use Rattle.time_table.proofs.part_by_part.covered_piece.Statement.{statement}
 use Rattle.time_table.proofs.part_by_part.covered_piece.Tie as tie

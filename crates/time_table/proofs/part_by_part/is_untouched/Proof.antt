@@ -1,4 +1,5 @@
--- `is_untouched` meets its contract, test by test.
+-- `is_untouched` meets its contract: an overlap makes both sides false; without one a part that is taken out makes both true, and for one that is put in
+-- the test of its end decides.
 -- Assumes nothing.
 use mathlib.Core.Path.{sym, _∙_}
 use borrow.Author.Needs.{needs}

@@ -1,4 +1,4 @@
--- `part_at` meets its contract: one of two parts.
+-- `part_at` meets its contract: a part that is taken out is the step's own, and one that is put in starts at `from`, as in `partAt`.
 -- Assumes nothing.
 use mathlib.Core.Path.{refl}
 use Rattle.time_table.proofs.part_by_part.part_at.Statement.{statement}
