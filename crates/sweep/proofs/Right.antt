@@ -17,19 +17,16 @@ use Rattle.time_table.proofs.Sums.{has-in, has-below, has-above, by-place, lt-o
 use Rattle.sweep.specs.declared.Task.{Task}
 use Rattle.sweep.specs.Tasks.{taskAt, usageOf, runEnd, runs}
 use Rattle.sweep.specs.Sweep.{idsAt, cuts, sweep}
-use Rattle.sweep.proofs.Runs.{Run, Runs, done, more}
+use Rattle.sweep.proofs.Runs.{Run, done, more}
 use Rattle.sweep.proofs.Cuts.{cuts-of}
 use Rattle.sweep.proofs.Covered.{ids-occur, ids-few, ids-after}
-use Rattle.sweep.proofs.Swept.{sweep-runs}
+use Rattle.sweep.proofs.Swept.{OurRuns, sweep-runs}
 
 module _ (ts : List Task) where
-  abbrev OurRuns : ℕ → List Row → Type 0
-  OurRuns lo rows = Runs (idsAt ts) (usageOf ts) lo rows
-
   abbrev OurRun : ℕ → Row → Type 0
   OurRun lo r = Run (idsAt ts) (usageOf ts) lo r
 
-  none-low : (F : Row → ℕ) (t : ℕ) {lo : ℕ} (rows : List Row) → OurRuns lo rows → t < lo → summed F t rows ≡ 0
+  none-low : (F : Row → ℕ) (t : ℕ) {lo : ℕ} (rows : List Row) → OurRuns ts lo rows → t < lo → summed F t rows ≡ 0
   unfolding summed
   none-low F t [] u lt = refl
   none-low F t (r ∷ rs) (more u v) lt =
@@ -37,7 +34,7 @@ module _ (ts : List Task) where
 
   -- a sum over the rows at an instant goes by its list
   module _ (F : Row → ℕ) (G : List ℕ → ℕ) (by : (lo : ℕ) (r : Row) → OurRun lo r → F r ≡ G (tasks r)) (empty : G [] ≡ 0) where
-    runs-summed : (t : ℕ) {lo : ℕ} (rows : List Row) → OurRuns lo rows → lo ≤ t → summed F t rows ≡ G (idsAt ts t)
+    runs-summed : (t : ℕ) {lo : ℕ} (rows : List Row) → OurRuns ts lo rows → lo ≤ t → summed F t rows ≡ G (idsAt ts t)
     unfolding summed
     runs-summed t [] (done h) le = sym (ap G (h t le) ∙ empty)
     runs-summed t {lo} (r ∷ rs) (more u v) le =
@@ -57,7 +54,7 @@ module _ (ts : List Task) where
     unfolding cuts
     top t le = ids-after ts t (λ c m. let w = cuts-of ts (length ts) m in ⊎-elim (λ e. omega (arith, w .full, ends (w .id))) (λ e. omega (arith, ends (w .id))) (w .side))
 
-    runs-ordered : {lo : ℕ} (rows : List Row) → OurRuns lo rows → Ordered ticks lo rows
+    runs-ordered : {lo : ℕ} (rows : List Row) → OurRuns ts lo rows → Ordered ticks lo rows
     unfolding Ordered
     runs-ordered [] u = tt
     runs-ordered (r ∷ rs) (more u v) = (
@@ -82,7 +79,7 @@ module _ (ts : List Task) where
         positive [] n = absurd (n refl)
         positive (x ∷ xs) n = omega arith
 
-    runs-sound : {lo : ℕ} (rows : List Row) → OurRuns lo rows → Each (Sound (usageOf ts)) rows
+    runs-sound : {lo : ℕ} (rows : List Row) → OurRuns ts lo rows → Each (Sound (usageOf ts)) rows
     unfolding Each
     runs-sound [] u = tt
     runs-sound (r ∷ rs) (more u v) = (run-sound u, runs-sound rs v)

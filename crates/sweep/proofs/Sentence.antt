@@ -19,8 +19,8 @@ use Rattle.sweep.specs.Sweep.{idsAt, sweep}
 use Rattle.sweep.specs.Sentence.{Lists, ByLatest, RunRow, Found, Ahead, SweepOf}
 use Rattle.sweep.proofs.Ordered.{in-occurs, sorted-map}
 use Rattle.sweep.proofs.Covered.{sooner, ids-occur, ids-sorted, ids-unique}
-use Rattle.sweep.proofs.Runs.{Run, Runs, done, more, runs-unique}
-use Rattle.sweep.proofs.Swept.{sweep-runs}
+use Rattle.sweep.proofs.Runs.{Run, done, more, runs-unique}
+use Rattle.sweep.proofs.Swept.{OurRuns, sweep-runs}
 
 module _ (ts : List Task) where
   to-latest : (i j : ℕ) → InTurn (sooner ts) i j → ByLatest ts i j
@@ -83,7 +83,7 @@ module _ (ts : List Task) where
   tail (cons h s) = s
 
   to-runs : {lo : ℕ} (rows : List Row) → ((r : Row) → In r rows → RunRow ts r) → Sorted Ahead rows → ((r : Row) → In r rows → lo ≤ r .start)
-      → ((t i : ℕ) → lo ≤ t → runs ts i t ≡ true → Found t rows) → Runs (idsAt ts) (usageOf ts) lo rows
+      → ((t i : ℕ) → lo ≤ t → runs ts i t ≡ true → Found t rows) → OurRuns ts lo rows
   to-runs [] each sorted low all = done (λ t h. none-or t [] (λ w. in-none (w .is)) (λ i c. all t i h c))
   to-runs {lo} (r ∷ rs) each sorted low all =
       more run
@@ -113,18 +113,15 @@ module _ (ts : List Task) where
 
   -- ---- from the runs to the sentence
 
-  abbrev OurRuns : ℕ → List Row → Type 0
-  OurRuns lo rows = Runs (idsAt ts) (usageOf ts) lo rows
-
-  runs-low : {lo : ℕ} (rows : List Row) → OurRuns lo rows → (r : Row) → In r rows → lo ≤ r .start
+  runs-low : {lo : ℕ} (rows : List Row) → OurRuns ts lo rows → (r : Row) → In r rows → lo ≤ r .start
   runs-low (x ∷ rows) (more u v) r (here e) = omega (arith, u .from, ap (λ (q : Row). q .start) e)
   runs-low (x ∷ rows) (more u v) r (there m) = omega (arith, u .from, u .proper, runs-low rows v r m)
 
-  runs-sorted : {lo : ℕ} (rows : List Row) → OurRuns lo rows → Sorted Ahead rows
+  runs-sorted : {lo : ℕ} (rows : List Row) → OurRuns ts lo rows → Sorted Ahead rows
   runs-sorted [] u = nil
   runs-sorted (x ∷ rows) (more u v) = cons (λ q m. runs-low rows v q m) (runs-sorted rows v)
 
-  runs-all : {lo : ℕ} (rows : List Row) → OurRuns lo rows → (t : ℕ) → lo ≤ t → (idsAt ts t ≡ [] → ⊥) → Found t rows
+  runs-all : {lo : ℕ} (rows : List Row) → OurRuns ts lo rows → (t : ℕ) → lo ≤ t → (idsAt ts t ≡ [] → ⊥) → Found t rows
   runs-all [] (done h) t k n = absurd (n (h t k))
   runs-all (x ∷ rows) (more u v) t k n =
       ⊎-elim
@@ -141,7 +138,7 @@ module _ (ts : List Task) where
     run : Run (idsAt ts) (usageOf ts) lo r
     edge : (t : ℕ) → suc t ≡ r .start → idsAt ts t ≡ tasks r → ⊥
 
-  bounded : {lo : ℕ} (rows : List Row) → OurRuns lo rows → ((t : ℕ) → suc t ≡ lo → idsAt ts t ≡ idsAt ts lo → ⊥) → (r : Row) → In r rows → Bounded r
+  bounded : {lo : ℕ} (rows : List Row) → OurRuns ts lo rows → ((t : ℕ) → suc t ≡ lo → idsAt ts t ≡ idsAt ts lo → ⊥) → (r : Row) → In r rows → Bounded r
   bounded {lo} (x ∷ rows) (more u v) edge r (here e) = subst (λ (q : Row). Bounded q) (sym e) (record { lo = lo; run = u; edge = go })
     where
       go : (t : ℕ) → suc t ≡ x .start → idsAt ts t ≡ tasks x → ⊥

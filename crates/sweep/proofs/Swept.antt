@@ -21,6 +21,10 @@ use Rattle.sweep.proofs.Covered.{ids-between, ids-before, ids-after, cu
 use Rattle.sweep.proofs.Runs.{Run, Runs, done, more}
 
 module _ (ts : List Task) where
+  -- the runs of the tasks, from an instant on
+  abbrev pub OurRuns : ℕ → List Row → Type 0
+  OurRuns lo rows = Runs (idsAt ts) (usageOf ts) lo rows
+
   -- of the cuts, bs are those behind a
   pub record Rest (a : ℕ) (bs : List ℕ) : Type 0 where
     pub split : (c : ℕ) → In c (cuts ts) → (c ≤ a) ⊎ In c bs
@@ -102,8 +106,7 @@ module _ (ts : List Task) where
             is = ap (rowsBy ts) e ∙ sym (laid-none 0 (suc a) bs none);
           }
 
-  rows-runs : {lo : ℕ} (a : ℕ) (bs : List ℕ) → Rest a bs → lo ≤ a → ((t : ℕ) → lo ≤ t → t < a → idsAt ts t ≡ [])
-      → Runs (idsAt ts) (usageOf ts) lo (rowsFrom ts a bs)
+  rows-runs : {lo : ℕ} (a : ℕ) (bs : List ℕ) → Rest a bs → lo ≤ a → ((t : ℕ) → lo ≤ t → t < a → idsAt ts t ≡ []) → OurRuns lo (rowsFrom ts a bs)
   unfolding rowsFrom laid
   rows-runs {lo} a [] r h gap = done (λ t k. ⊎-elim (gap t k) (λ x. ids-after ts t (λ c m. omega (arith, low c (r .split c m)))) (lt-or-le t a))
     where
@@ -119,9 +122,9 @@ module _ (ts : List Task) where
       f = idsAt ts
 
       go : (is : List ℕ) → idsAt ts a ≡ is
-          → (lo ≤ b → ((t : ℕ) → lo ≤ t → t < b → f t ≡ []) → Runs f (usageOf ts) lo (rowsFrom ts b bs))
-          → (suc (b - 1) ≤ b → ((t : ℕ) → suc (b - 1) ≤ t → t < b → f t ≡ []) → Runs f (usageOf ts) (suc (b - 1)) (rowsFrom ts b bs))
-          → Runs f (usageOf ts) lo (laid (usageOf ts) a b is (rowsFrom ts b bs))
+          → (lo ≤ b → ((t : ℕ) → lo ≤ t → t < b → f t ≡ []) → OurRuns lo (rowsFrom ts b bs))
+          → (suc (b - 1) ≤ b → ((t : ℕ) → suc (b - 1) ≤ t → t < b → f t ≡ []) → OurRuns (suc (b - 1)) (rowsFrom ts b bs))
+          → OurRuns lo (laid (usageOf ts) a b is (rowsFrom ts b bs))
       go [] e same next = same (omega (arith, l)) (λ t k m. ⊎-elim (gap t k) (λ x. quiet r t x m ∙ e) (lt-or-le t a))
       go (i ∷ is) e same next = more run (next (omega (arith, l)) (λ t x y. absurd (omega (arith, l))))
         where
@@ -148,7 +151,7 @@ module _ (ts : List Task) where
               }
 
   -- the sweep's rows are the runs
-  pub sweep-runs : Runs (idsAt ts) (usageOf ts) 0 (sweep ts)
+  pub sweep-runs : OurRuns 0 (sweep ts)
   sweep-runs =
       let w = whole in
       rw (w .is) (rows-runs 0 (w .behind) (w .rest) (omega arith) (λ t x y. absurd (omega arith)))
