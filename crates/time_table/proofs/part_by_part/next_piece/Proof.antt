@@ -1,25 +1,21 @@
 -- `next_piece` meets its contract: the pieces before the one that is found are none.
 -- Assumes nothing.
 use mathlib.Core.Path.{_≡_, sym, ap, _∙_}
-use mathlib.Core.Bool.{Bool, true, false, cond}
+use mathlib.Core.Bool.{Bool}
 use mathlib.Core.Logic.{⊎-elim}
-use mathlib.Core.List.{[], append-nil}
+use mathlib.Core.List.{append-nil}
 use Prim.Native.Nat.{ℕ, _≤_}
 use borrow.Author.Tests.{not-true, not-false}
 use borrow.Author.Needs.{needs}
 use native.Mathlib.Omega.{arith}
-use Rattle.time_table.specs.Insertion.{gapBefore}
 use Rattle.time_table.specs.Stepping.{gapIn, piecesFrom}
 use Rattle.time_table.proofs.Piecewise.{no-piece, no-gap, no-left, no-covered, found, row-ends}
 use Rattle.time_table.proofs.part_by_part.next_piece.Statement.{statement}
 use Rattle.time_table.proofs.part_by_part.next_piece.Tie as tie
 
 -- the piece before the row, where a part is put in and where it is taken out
-gap-is : (a : tie.Start) → a .args .taking ≡ false → gapIn (a .args .taking) (a .args .part) (a .args .profile) ≡ gapBefore (a .args .part) (a .args .profile)
-gap-is a e = ap (λ (b : Bool). cond b [] (gapBefore (a .args .part) (a .args .profile))) e
-
-taken-out : (a : tie.Start) → a .args .taking ≡ true → gapIn (a .args .taking) (a .args .part) (a .args .profile) ≡ []
-taken-out a e = ap (λ (b : Bool). cond b [] (gapBefore (a .args .part) (a .args .profile))) e
+gap-is : (a : tie.Start) {taking : Bool} → a .args .taking ≡ taking → gapIn (a .args .taking) (a .args .part) (a .args .profile) ≡ gapIn taking (a .args .part) (a .args .profile)
+gap-is a e = ap (λ (b : Bool). gapIn b (a .args .part) (a .args .profile)) e
 
 -- the pieces from j on are those from k on, where j is no more than k
 abbrev Skips : tie.Start → ℕ → Type 0
@@ -38,7 +34,7 @@ past-gap c le =
     (⊎-elim
     (λ w.
     at-number a 0 (w .0 .taken)
-    ∙ no-gap (a .args .taking) (a .args .part) (a .args .profile) (taken-out a (not-false _ (w .1 .left))))
+    ∙ no-gap (a .args .taking) (a .args .part) (a .args .profile) (gap-is a (not-false _ (w .1 .left))))
     (λ w. at-number a 1 (omega (arith, w .left))))
     (c .if1 .came)
 
