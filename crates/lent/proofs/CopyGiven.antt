@@ -20,12 +20,12 @@ use Rattle.planner.specs.declared.Refusal.the-variants.{Stale, ShortSlice}
 use Rattle.planner.specs.declared.Rows.{Rows}
 use Rattle.planner.specs.declared.Checked.the-variants.{Accepted, Refused}
 use Rattle.planner.specs.Checks.{unless}
-use Rattle.planner.specs.Records.{recordOf}
+use Rattle.planner.specs.Records.{recordOf, noRow}
 use Rattle.planner.specs.Sound.{Sound}
 use Rattle.planner.specs.Questions.{rowsWith, rowsShown}
 use Rattle.planner.proofs.Tests.{by-test}
 use Rattle.lent.specs.declared.Copied.{Copied}
-use Rattle.lent.specs.Copies.{noRow, copiedBy, copyAnswer, copied, CopyGiven, stale, short, all}
+use Rattle.lent.specs.Copies.{copiedBy, copyAnswer, copied, CopyGiven, stale, short, all}
 use Rattle.lent.proofs.Copying.{copied-length, copied-below, copied-beyond}
 
 module _ (plan : Plan) where

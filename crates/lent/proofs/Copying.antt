@@ -14,7 +14,8 @@ use Rattle.planner.specs.declared.Rows.{Rows}
 use Rattle.planner.specs.declared.Checked.{Checked}
 use Rattle.planner.specs.declared.Refusal.the-variants.{ShortSlice}
 use Rattle.planner.specs.Checks.{unless, _then_}
-use Rattle.lent.specs.Copies.{noRow, copiedBy, copyAnswer, copied}
+use Rattle.planner.specs.Records.{noRow}
+use Rattle.lent.specs.Copies.{copiedBy, copyAnswer, copied}
 
 pub copied-length : (xs : List RowRecord) (n : ℕ) (ys : List RowRecord) → length (copied xs n ys) ≡ length ys
 copied-length xs zero ys = refl

@@ -1,10 +1,9 @@
 -- A copy of a plan's rows to a lent slice: what it answers, and what the slice holds afterwards.
 use mathlib.Core.Path.{_≡_}
 use mathlib.Core.Bool.{true, false}
-use mathlib.Core.List.{List, []}
+use mathlib.Core.List.{List}
 use Prim.Native.Nat.{ℕ, zero, suc, _≤_, _<_}
 use lib.Dec.{leb}
-use lib.IntN.{pos}
 use lib.ListN.{getD, set}
 use Rattle.planner.specs.declared.Plan.{Plan}
 use Rattle.planner.specs.declared.RowRecord.{RowRecord}
@@ -12,6 +11,7 @@ use Rattle.planner.specs.declared.Rows.{Rows}
 use Rattle.planner.specs.declared.Checked.{Checked}
 use Rattle.planner.specs.declared.Refusal.the-variants.{Stale, ShortSlice}
 use Rattle.planner.specs.Checks.{unless, _then_}
+use Rattle.planner.specs.Records.{noRow}
 use Rattle.lent.specs.declared.Copied.{Copied}
 
 -- copying rows checks 9, 10
@@ -26,10 +26,6 @@ copiedBy (Checked.Refused why) n = record { answer = Checked.Refused why; count 
 -- the answer of a copy to a slice with so many places
 unfoldable pub copyAnswer : Rows → ℕ → Copied
 copyAnswer rows places = copiedBy (copyChecked rows places) (rows .count)
-
--- what a list of rows has past its end, as the code's reads have it
-abbrev pub noRow : RowRecord
-noRow = record { start = pos 0; end = pos 0; height = 0; ids = []; count = 0 }
 
 -- ys with the first n rows of xs in its first n places
 abbrev pub copied : List RowRecord → ℕ → List RowRecord → List RowRecord

@@ -12,3 +12,7 @@ recordOf r = record { start = instant (r .start); end = instant (r .end); height
 -- the record of nothing
 abbrev pub noRecord : RowRecord
 noRecord = record { start = pos 0; end = pos 0; height = 0; ids = pad 32 0 []; count = 0 }
+
+-- what a list of records has past its end, as the code's reads have it
+abbrev pub noRow : RowRecord
+noRow = record { start = pos 0; end = pos 0; height = 0; ids = []; count = 0 }

@@ -1,12 +1,11 @@
 -- `put_rows` meets its contract: the rows passed are written, one behind the other, and each takes at most 400 bytes.
 -- Assumes nothing.
 use mathlib.Core.Path.{_≡_}
-use mathlib.Core.List.{[], flatMap}
+use mathlib.Core.List.{flatMap}
 use Prim.Native.Nat.{_-_, _+_, _*_, _≤_, _<_}
-use lib.IntN.{pos}
 use lib.ListN.{length, take}
 use Rattle.time_table.proofs.Held.{held-length}
-use Rattle.planner.specs.declared.RowRecord.{RowRecord}
+use Rattle.planner.specs.Records.{noRow}
 use Rattle.command.specs.Text.{rowText, rowsText}
 use Rattle.command.specs.Written.{Written}
 use Rattle.command.proofs.Writing.{written-none, written-length, written-more}
@@ -21,10 +20,6 @@ Inv-loop out₀ from rows n at₀ i₀ out at i = (i ≤ n) × (at ≤ from + 40
 
 abbrev μ-loop : tie.MeasureT-loop
 μ-loop out₀ from rows n at₀ i₀ out at i = n - i
-
--- what a read past the rows would give
-abbrev unread : RowRecord
-unread = record { start = pos 0; end = pos 0; height = 0; ids = []; count = 0 }
 
 inside : (c : tie.In-loop Inv-loop μ-loop) → c .before .loop .i < length (c .before .before .before .args .t3 .rows)
 inside c =
@@ -46,7 +41,7 @@ put-row-requires c κs =
     let t = c .before .before in
     let l = t .before in
     let s = l .before .before in (
-      s .pre .0 .ids unread (l .loop .i) (t .loop-test .taken),
+      s .pre .0 .ids noRow (l .loop .i) (t .loop-test .taken),
       omega (arith, t .loop-test .taken, s .pre .0 .held .fits, s .pre .1, l .loop .inv .1, written-length (l .loop .inv .2)),
     )
 
@@ -64,7 +59,7 @@ loop-again c =
     let s = l .before .before in (
       omega (arith, t .loop-test .taken),
       omega (arith, p .put-row .ensures .1, l .loop .inv .1),
-      rw (flat-take rowText (s .args .t3 .rows) (l .loop .i) unread (inside t)) (written-more (l .loop .inv .2) (p .put-row .ensures .0)),
+      rw (flat-take rowText (s .args .t3 .rows) (l .loop .i) noRow (inside t)) (written-more (l .loop .inv .2) (p .put-row .ensures .0)),
     )
 
 same-length : tie.Need-same-length Inv-loop μ-loop

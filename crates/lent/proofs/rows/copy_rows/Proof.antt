@@ -63,7 +63,8 @@ use Rattle.planner.proofs.Plan.rows.Symbol as rows-def
 use Rattle.planner.proofs.Plan.rows.Symbol.{name as #rows}
 use Rattle.planner.proofs.Plan.rows.Met as rows-thm
 use Rattle.lent.specs.declared.Copied.{Copied}
-use Rattle.lent.specs.Copies.{noRow, copyAnswer, copied}
+use Rattle.planner.specs.Records.{noRow}
+use Rattle.lent.specs.Copies.{copyAnswer, copied}
 use Rattle.lent.proofs.Says.{says2}
 use Rattle.lent.proofs.Locals.{nthTy}
 use Rattle.lent.proofs.Tests.{tests}

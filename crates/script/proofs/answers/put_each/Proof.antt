@@ -3,9 +3,8 @@
 use mathlib.Core.Path.{_≡_, refl, sym, ap, _∙_}
 use Prim.Native.Nat.{_-_, _≤_}
 use lib.ListN.{length, take, getD, length-map}
-use mathlib.Core.List.{[], flatMap}
-use lib.IntN.{pos}
-use Rattle.planner.specs.declared.RowRecord.{RowRecord}
+use mathlib.Core.List.{flatMap}
+use Rattle.planner.specs.Records.{noRow}
 use Rattle.script.specs.Numbers.{rowNumbers, each}
 use Rattle.script.specs.Pages.{Page, pageOf, puts}
 use Rattle.script.proofs.Pages.{puts-append}
@@ -13,10 +12,6 @@ use Rattle.time_table.proofs.Mapped.{flat-take}
 use native.Mathlib.Omega.{arith}
 use Rattle.script.proofs.answers.put_each.Statement.{statement}
 use Rattle.script.proofs.answers.put_each.Tie as tie
-
--- what is read past the end of an array of rows
-abbrev blank : RowRecord
-blank = record { start = pos 0; end = pos 0; height = 0; ids = []; count = 0 }
 
 abbrev Inv-loop : tie.InvT-loop
 Inv-loop answers₀ written shown next₀ count i₀ answers next i = (i ≤ count) × (count ≡ shown .count) × (length answers ≡ length answers₀) × (pageOf answers next ≡ puts (pageOf answers₀ written) (each (take i (shown .rows))))
@@ -40,7 +35,7 @@ element-copy-out-row c = omega (arith, c .before .before .pre .held .fits)
 put-row-requires : tie.Need-put-row-requires Inv-loop μ-loop
 put-row-requires c κs =
     let l = c .before .before .before in
-    l .before .pre .ids blank (l .loop .i) (omega arith) .fits
+    l .before .pre .ids noRow (l .loop .i) (omega arith) .fits
 
 add-i : tie.Need-add-i Inv-loop μ-loop
 add-i c = omega arith
@@ -54,14 +49,14 @@ loop-again c =
     let a = l .before in
     let p = pageOf (a .args .answers .now) (a .args .written) in
     let rows = a .args .t3 .rows in
-    let numbers = rowNumbers (getD rows (l .loop .i) blank) in (
+    let numbers = rowNumbers (getD rows (l .loop .i) noRow) in (
       omega arith,
       omega arith,
       c .before .put-row .kept .0 ∙ l .loop .inv .2,
       c .before .put-row .ensures
           ∙ ap (λ (q : Page). puts q numbers) (l .loop .inv .3)
           ∙ sym (puts-append p (each (take (l .loop .i) rows)) numbers)
-          ∙ ap (puts p) (sym (flat-take rowNumbers rows (l .loop .i) blank (omega (arith, a .pre .held .fits, room a)))),
+          ∙ ap (puts p) (sym (flat-take rowNumbers rows (l .loop .i) noRow (omega (arith, a .pre .held .fits, room a)))),
     )
 
 same-length : tie.Need-same-length Inv-loop μ-loop
