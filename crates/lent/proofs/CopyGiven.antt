@@ -33,13 +33,9 @@ module _ (plan : Plan) where
   abbrev records : List RowRecord
   records = map recordOf (rowsOf (plan .table))
 
-  shown-live : plan .live ≡ true → rowsShown plan ≡ rowsWith Accepted records
+  shown : {live : Bool} → plan .live ≡ live → rowsShown plan ≡ cond live (rowsWith Accepted records) (rowsWith (Refused Stale) [])
   unfolding rowsShown
-  shown-live e = ap (λ (b : Bool). cond b (rowsWith Accepted records) (rowsWith (Refused Stale) [])) e
-
-  shown-stale : plan .live ≡ false → rowsShown plan ≡ rowsWith (Refused Stale) []
-  unfolding rowsShown
-  shown-stale e = ap (λ (b : Bool). cond b (rowsWith Accepted records) (rowsWith (Refused Stale) [])) e
+  shown e = ap (λ (b : Bool). cond b (rowsWith Accepted records) (rowsWith (Refused Stale) [])) e
 
   module _ (sound : Sound plan) where
     count-is : plan .live ≡ true → length records ≡ plan .table .count
@@ -53,11 +49,11 @@ module _ (plan : Plan) where
       live-answer : plan .live ≡ true → (fits : Bool) → leb (plan .table .count) places ≡ fits → answer ≡ copiedBy (unless ShortSlice fits) (plan .table .count)
       unfolding copyAnswer
       live-answer e fits f =
-          ap (λ (t : Rows). copyAnswer t places) (shown-live e) ∙ ap (λ (n : ℕ). copiedBy (unless ShortSlice (leb n places)) n) (count-is e) ∙ ap (λ (b : Bool). copiedBy (unless ShortSlice b) (plan .table .count)) f
+          ap (λ (t : Rows). copyAnswer t places) (shown e) ∙ ap (λ (n : ℕ). copiedBy (unless ShortSlice (leb n places)) n) (count-is e) ∙ ap (λ (b : Bool). copiedBy (unless ShortSlice b) (plan .table .count)) f
 
       copy-given : {a : Copied} → CopyGiven plan places a → answer ≡ a
       unfolding copyAnswer
-      copy-given (stale e) = ap (λ (t : Rows). copyAnswer t places) (shown-stale e)
+      copy-given (stale e) = ap (λ (t : Rows). copyAnswer t places) (shown e)
       copy-given (short e l) = live-answer e false (lt-leb _ _ l)
       copy-given (all e l) = live-answer e true (le-leb _ _ l)
 
@@ -84,7 +80,7 @@ module _ (plan : Plan) where
           let inside : k < length records = omega (arith, count-is e) in
           let whole : answer (length before) .count ≡ plan .table .count = ap (λ (a : Copied). a .count) (copy-given (length before) (all e fits)) in
           copied-below (rowsShown plan .rows) (answer (length before) .count) before k d (omega arith) (omega arith)
-          ∙ ap (λ (t : Rows). getD (t .rows) k noRow) (shown-live e)
+          ∙ ap (λ (t : Rows). getD (t .rows) k noRow) (shown e)
           ∙ List·getD-append records _ noRow k inside
           ∙ get-map recordOf table.noRow noRow (rowsOf (plan .table)) k (omega (arith, length-map (rowsOf (plan .table)) recordOf))
 
