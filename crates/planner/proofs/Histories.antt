@@ -37,7 +37,7 @@ use Rattle.planner.proofs.Tests.{by-test}
 use Rattle.planner.proofs.Loading.{load-by, load-accepted, loaded-sound}
 use Rattle.planner.proofs.Known.{tasks-of}
 use Rattle.planner.proofs.Known.{known-true}
-use Rattle.planner.proofs.Updating.{new-sound, new-live, accepted-live, accepted-stale, live-over-full, live-with-room, update-unknown, update-known}
+use Rattle.planner.proofs.Updating.{new-sound, new-live, accepted-by, live-over-full, live-with-room, update-unknown, update-known}
 use Rattle.planner.proofs.Accepted.{capacity-accepted, bounds-accepted}
 use Rattle.planner.proofs.HeardJobs.{kept-tasks, kept-numbers, moved-tasks, moved-numbers}
 use Rattle.planner.proofs.SignedDraws.{AllNumbers}
@@ -100,7 +100,7 @@ module _ (h : Heard) (plan : Plan) (a : Agrees h plan) (id earliest latest : ℤ
 
     stale-led : plan .live ≡ false → Led h plan call
     stale-led stale =
-        good-led h plan call _ (is-accepted ∙ accepted-stale plan (amount id) (tick earliest) (tick latest) stale)
+        good-led h plan call _ (is-accepted ∙ accepted-by plan (amount id) (tick earliest) (tick latest) stale)
         (swept-good (hear h call) ts ts-sound ts-heard numbers (plan .capacity) (a .sound .capacity) (a .capacity))
 
     abbrev old : Part
@@ -125,14 +125,14 @@ module _ (h : Heard) (plan : Plan) (a : Agrees h plan) (id earliest latest : ℤ
       room-led : Led h plan call
       room-led =
           good-led h plan call _
-          (is-accepted ∙ accepted-live plan (amount id) (tick earliest) (tick latest) live ∙ live-with-room plan (amount id) (tick earliest) (tick latest) room)
+          (is-accepted ∙ accepted-by plan (amount id) (tick earliest) (tick latest) live ∙ live-with-room plan (amount id) (tick earliest) (tick latest) room)
           (live-good (hear h call) ts ts-sound ts-heard numbers (plan .capacity) (a .sound .capacity) (a .capacity) rows right (fits .few))
 
     live-led : plan .live ≡ true → Led h plan call
     live-led live =
         ⊎-elim
         (λ over. refused-led h plan call TooManyRows
-        (is-accepted ∙ accepted-live plan (amount id) (tick earliest) (tick latest) live ∙ live-over-full plan (amount id) (tick earliest) (tick latest) over))
+        (is-accepted ∙ accepted-by plan (amount id) (tick earliest) (tick latest) live ∙ live-over-full plan (amount id) (tick earliest) (tick latest) over))
         (λ room. room-led live room)
         (by-test (updateOver old new (rowsOf (plan .table))))
 

@@ -28,7 +28,7 @@ use Rattle.planner.specs.Updates.{known, bounded, acceptedUpdate}
 use Rattle.planner.specs.History.{load, update, withoutPlaces, outcome, accepted}
 use Rattle.planner.proofs.Tests.{by-test}
 use Rattle.planner.proofs.Loading.{load-by}
-use Rattle.planner.proofs.Updating.{accepted-live, accepted-stale, live-over-full, live-with-room, update-unknown, update-known}
+use Rattle.planner.proofs.Updating.{accepted-by, live-over-full, live-with-room, update-unknown, update-known}
 
 -- live afterwards exactly if the answer is "fits"
 abbrev LiveIfFits : Updated → Type 0
@@ -77,7 +77,7 @@ module _ (plan : Plan) (id earliest latest : ℤ) where
       → (outcome plan (update id earliest latest) .plan .live ≡ true) ↔ (outcome plan (update id earliest latest) .answer ≡ Fits)
   stale-live stale =
       by-update Accepts (refused-accepts plan)
-      (rw (accepted-stale plan (amount id) (tick earliest) (tick latest) stale) (swept-accepts (plan .capacity) _))
+      (rw (accepted-by plan (amount id) (tick earliest) (tick latest) stale) (swept-accepts (plan .capacity) _))
 
   abbrev over : Bool
   over =
@@ -89,6 +89,6 @@ module _ (plan : Plan) (id earliest latest : ℤ) where
   live-stays live =
       by-update (λ (o : Updated). o .plan .live ≡ true) (λ why. live)
       (⊎-elim
-      (λ full. rw (accepted-live plan (amount id) (tick earliest) (tick latest) live, live-over-full plan (amount id) (tick earliest) (tick latest) full) live)
-      (λ room. rw (accepted-live plan (amount id) (tick earliest) (tick latest) live, live-with-room plan (amount id) (tick earliest) (tick latest) room) refl)
+      (λ full. rw (accepted-by plan (amount id) (tick earliest) (tick latest) live, live-over-full plan (amount id) (tick earliest) (tick latest) full) live)
+      (λ room. rw (accepted-by plan (amount id) (tick earliest) (tick latest) live, live-with-room plan (amount id) (tick earliest) (tick latest) room) refl)
       (by-test over))

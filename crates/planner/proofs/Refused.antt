@@ -44,7 +44,7 @@ use Rattle.planner.proofs.Tests.{by-test}
 use Rattle.planner.proofs.Given.{capacity-exactly, bounds-exactly, job-exactly}
 use Rattle.planner.proofs.InputOrder.{jobs-accepted, jobs-refused}
 use Rattle.planner.proofs.Loading.{load-by}
-use Rattle.planner.proofs.Updating.{accepted-live, accepted-stale, live-over-full, live-with-room, update-unknown, update-known}
+use Rattle.planner.proofs.Updating.{accepted-by, live-over-full, live-with-room, update-unknown, update-known}
 use Rattle.planner.proofs.Asking as asking
 use Rattle.planner.proofs.Ids.{has-task, no-task}
 use Rattle.planner.proofs.OverLimit.{over-exactly}
@@ -136,17 +136,17 @@ module _ (plan : Plan) (id earliest latest : ℤ) where
     over-is : plan .live ≡ true → over ≡ true → updated plan id earliest latest ≡ refusedUpdate plan TooManyRows
     over-is live h =
         update-known plan id earliest latest Accepted there good
-        ∙ accepted-live plan (amount id) (tick earliest) (tick latest) live
+        ∙ accepted-by plan (amount id) (tick earliest) (tick latest) live
         ∙ live-over-full plan (amount id) (tick earliest) (tick latest) h
 
     room-is : plan .live ≡ true → over ≡ false → judged (updated plan id earliest latest .answer) ≡ Accepted
     room-is live h =
-        rw (update-known plan id earliest latest Accepted there good, accepted-live plan (amount id) (tick earliest) (tick latest) live, live-with-room plan (amount id) (tick earliest) (tick latest) h)
+        rw (update-known plan id earliest latest Accepted there good, accepted-by plan (amount id) (tick earliest) (tick latest) live, live-with-room plan (amount id) (tick earliest) (tick latest) h)
         (scanned (plan .capacity) _)
 
     stale-is : plan .live ≡ false → judged (updated plan id earliest latest .answer) ≡ Accepted
     stale-is stale =
-        rw (update-known plan id earliest latest Accepted there good, accepted-stale plan (amount id) (tick earliest) (tick latest) stale)
+        rw (update-known plan id earliest latest Accepted there good, accepted-by plan (amount id) (tick earliest) (tick latest) stale)
         (scanned (plan .capacity) (sweep (set (tasksOf (plan .tasks)) (amount id) new)))
 
   -- each update is refused for a reason of the table, and then nothing changes, or it is none of those

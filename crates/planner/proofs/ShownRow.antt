@@ -33,7 +33,7 @@ use Rattle.planner.specs.ShownRow.{FirstShown, Shown}
 use Rattle.planner.proofs.Tests.{by-test}
 use Rattle.planner.proofs.Known.{tasks-of}
 use Rattle.planner.proofs.Loading.{load-by}
-use Rattle.planner.proofs.Updating.{changed, accepted-live, accepted-stale, live-over-full, live-with-room}
+use Rattle.planner.proofs.Updating.{changed, accepted-by, live-over-full, live-with-room}
 use Rattle.planner.proofs.Agreeing.{answer-over}
 use Rattle.planner.proofs.Liveness.{by-update, live-stays}
 
@@ -97,10 +97,10 @@ accepted-shown : (plan : Plan) (i e l : ℕ) → Shown (acceptedUpdate plan i e 
 accepted-shown plan i e l =
     ⊎-elim
     (λ live. ⊎-elim
-    (λ full. subst Shown (sym (accepted-live plan i e l live ∙ live-over-full plan i e l full)) (refused-shown plan _))
-    (λ room. subst Shown (sym (accepted-live plan i e l live ∙ live-with-room plan i e l room)) (live-shown (plan .capacity) (set (tasksOf (plan .tasks)) i (changed plan i e l)) _))
+    (λ full. subst Shown (sym (accepted-by plan i e l live ∙ live-over-full plan i e l full)) (refused-shown plan _))
+    (λ room. subst Shown (sym (accepted-by plan i e l live ∙ live-with-room plan i e l room)) (live-shown (plan .capacity) (set (tasksOf (plan .tasks)) i (changed plan i e l)) _))
     (by-test _))
-    (λ stale. subst Shown (sym (accepted-stale plan i e l stale)) (swept-shown (plan .capacity) _))
+    (λ stale. subst Shown (sym (accepted-by plan i e l stale)) (swept-shown (plan .capacity) _))
     (by-test (plan .live))
 
 -- after any call of any plan

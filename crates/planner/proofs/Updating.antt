@@ -87,13 +87,9 @@ module _ (plan : Plan) (i e l : ℕ) where
   abbrev pub changed : Task
   changed = bounded (taskAt (tasksOf (plan .tasks)) i) e l
 
-  pub accepted-live : plan .live ≡ true → acceptedUpdate plan i e l ≡ liveUpdate plan i changed
+  pub accepted-by : {live : Bool} → plan .live ≡ live → acceptedUpdate plan i e l ≡ cond live (liveUpdate plan i changed) (staleUpdate plan i changed)
   unfolding acceptedUpdate
-  accepted-live live = ap (λ (b : Bool). cond b (liveUpdate plan i changed) (staleUpdate plan i changed)) live
-
-  pub accepted-stale : plan .live ≡ false → acceptedUpdate plan i e l ≡ staleUpdate plan i changed
-  unfolding acceptedUpdate
-  accepted-stale stale = ap (λ (b : Bool). cond b (liveUpdate plan i changed) (staleUpdate plan i changed)) stale
+  accepted-by h = ap (λ (b : Bool). cond b (liveUpdate plan i changed) (staleUpdate plan i changed)) h
 
   abbrev rows-after : List Row
   rows-after = updatedRows (partOf i (taskAt (tasksOf (plan .tasks)) i)) (partOf i changed) (rowsOf (plan .table))
@@ -140,7 +136,7 @@ module _ (plan : Plan) (s : Sound plan) (i e l : ℕ) (lt : i < plan .tasks .cou
     came-to f = rw (← (flag f)) (ap (λ (x : Edited). x .table) is)
 
     pub edit-over : r .over ≡ true → (r .table ≡ plan .table) × (refusedUpdate plan TooManyRows ≡ acceptedUpdate plan i e l)
-    edit-over f = (came-to f, sym (accepted-live plan i e l live ∙ live-over-full plan i e l (flag f)))
+    edit-over f = (came-to f, sym (accepted-by plan i e l live ∙ live-over-full plan i e l (flag f)))
 
     fits : r .over ≡ false → UpdateFits (partOf i (old plan s i e l lt order top)) (partOf i (new plan s i e l lt order top)) (plan .table) (r .table)
     fits f = update-fits _ _ (plan .table) (r .table) (s .live live .clean) (flag f) (came-to f)
@@ -151,7 +147,7 @@ module _ (plan : Plan) (s : Sound plan) (i e l : ℕ) (lt : i < plan .tasks .cou
     pub edit-whole : r .over ≡ false → livePlan (plan .capacity) (tasksOf stored) (rowsOf (r .table)) ≡ acceptedUpdate plan i e l
     edit-whole f =
         let rows = ap rowsOf (fits f .is) ∙ rows-of _ in
-        (λ j. livePlan (plan .capacity) (stored-tasks j) (rows j)) ∙ sym (accepted-live plan i e l live ∙ live-with-room plan i e l (flag f))
+        (λ j. livePlan (plan .capacity) (stored-tasks j) (rows j)) ∙ sym (accepted-by plan i e l live ∙ live-with-room plan i e l (flag f))
 
 -- the cases of an update
 module _ (plan : Plan) (id earliest latest : ℤ) where

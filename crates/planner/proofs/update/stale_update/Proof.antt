@@ -4,7 +4,7 @@ use mathlib.Core.Path.{_≡_, sym, ap, _∙_}
 use Rattle.sweep.specs.Tasks.{tasksOf, taskAt}
 use Rattle.planner.specs.Answers.{sweptPlan}
 use Rattle.planner.specs.Updates.{bounded}
-use Rattle.planner.proofs.Updating.{read-is, stored-sound, stored-tasks, accepted-stale}
+use Rattle.planner.proofs.Updating.{read-is, stored-sound, stored-tasks, accepted-by}
 use borrow.Author.Needs.{needs}
 use native.Mathlib.Omega.{arith}
 use Rattle.planner.proofs.update.stale_update.Statement.{statement}
@@ -39,7 +39,7 @@ returns : tie.Need-returns
 returns c =
     let a = c .before .before .before .before in (
       c .swept-plan .ensures .0 ∙ ap (sweptPlan (a .args .plan .capacity)) (stored-tasks (a .args .plan) (a .pre .0) (a .args .id) (a .args .earliest) (a .args .latest) (a .pre .2) (a .pre .3) (a .pre .4) _ (new-is (c .before)))
-          ∙ sym (accepted-stale (a .args .plan) (a .args .id) (a .args .earliest) (a .args .latest) (a .pre .1)),
+          ∙ sym (accepted-by (a .args .plan) (a .args .id) (a .args .earliest) (a .args .latest) (a .pre .1)),
       c .swept-plan .ensures .1,
     )
 
