@@ -4,12 +4,20 @@ use mathlib.Core.Path.{_≡_, sym, ap, _∙_}
 use mathlib.Core.List.{List, _++_}
 use Prim.Native.Nat.{ℕ}
 use lib.ListN.{drop}
+use contract.Lifetimes.{Lfts}
+use borrow.Fn.World.{ArgsD}
+use borrow.Fn.Kinds.{endedOf}
+use denote.Ref.{now}
+use denote.Triple.Clauses.{AtExit}
 use Rattle.command.specs.declared.Answered.{Answered}
 use Rattle.command.specs.declared.lines.State.{State}
 use Rattle.command.specs.declared.lines.Served.{Served}
 use Rattle.command.specs.Sessions.{Outcome, Answers}
 use Rattle.command.specs.Lines.{served, Serves, finished}
 use Rattle.command.specs.Unique.{FinishPromise}
+use Rattle.command.proofs.lines.State.finish.Reads as finish
+use Rattle.command.proofs.lines.State.finish.Kinds as finish-kinds
+use Rattle.command.proofs.lines.State.finish as finish-fn
 
 -- a text of one length in front of what was there
 text-unique : (text out : List ℕ) {a b : List ℕ} {n m : ℕ} → n ≡ m → a ≡ text ++ drop n out → b ≡ text ++ drop m out → a ≡ b
@@ -31,3 +39,8 @@ pub finish-unique : (s : State) (out a b : List ℕ) (r q : ℕ) → FinishPromi
 finish-unique s out a b r q g h =
     let len : r ≡ q = g .0 ∙ sym (h .0) in
     (text-unique (finished s) out len (g .1) (h .1), len)
+
+-- what meets the contract of `State::finish` meets its promise; those of `Session::answer` and `State::serve` cite theirs
+pub finish-promised : (κs : Lfts 1) (a : ArgsD finish-fn.signature κs) (r : ℕ) (s : AtExit (endedOf 1 finish-kinds.ps finish-kinds.r) κs)
+    → finish.Post κs a r s → FinishPromise (a .0) (now (a .1 .0)) (now (s .1 .0)) r
+finish-promised κs a r s meets = (meets .0, meets .1 .0, meets .1 .1)

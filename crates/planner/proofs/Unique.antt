@@ -1,4 +1,5 @@
--- No two outcomes meet a call's promise: the promise says what the outcome is.
+-- No two outcomes meet a call's promise: the promise says what the outcome is; and a promise is what the `ensures` clauses in the code say, as they are
+-- read off them.
 -- Assumes nothing.
 use mathlib.Core.Path.{_≡_, sym, _∙_}
 use lib.IntN.{ℤ}
@@ -9,6 +10,11 @@ use Rattle.planner.specs.declared.Rows.{Rows}
 use Rattle.planner.specs.declared.Updated.{Updated}
 use Rattle.planner.specs.declared.Loaded.{Loaded}
 use Rattle.planner.specs.Unique.{FreshPromise, LoadPromise, UpdatePromise, FitPromise, RowsPromise}
+use Rattle.planner.proofs.Plan.fresh.Reads as fresh
+use Rattle.planner.proofs.Plan.load.Reads as load
+use Rattle.planner.proofs.Plan.update.Reads as update
+use Rattle.planner.proofs.Plan.first_fit.Reads as fit
+use Rattle.planner.proofs.Plan.rows.Reads as rows
 
 pub fresh-unique : {r s : Plan} → FreshPromise r → FreshPromise s → r ≡ s
 fresh-unique p q = p .0 ∙ sym (q .0)
@@ -25,3 +31,21 @@ module _ (plan : Plan) where
 
   pub rows-unique : {r s : Rows} → RowsPromise plan r → RowsPromise plan s → r ≡ s
   rows-unique p q = p ∙ sym q
+
+-- what meets a function's contract meets its promise
+pub fresh-promised : (r : Plan) → fresh.Post tt tt r tt → FreshPromise r
+fresh-promised r meets = meets
+
+module _ (plan : Plan) where
+  pub load-promised : (jobs : Jobs) (capacity : ℤ) (r : Loaded) → load.Post tt (plan, (jobs, (capacity, tt))) r (plan, (jobs, (capacity, tt))) → LoadPromise plan jobs capacity r
+  load-promised jobs capacity r meets = meets
+
+  pub update-promised : (id earliest latest : ℤ) (r : Updated)
+      → update.Post tt (plan, (id, (earliest, (latest, tt)))) r (plan, (id, (earliest, (latest, tt)))) → UpdatePromise plan id earliest latest r
+  update-promised id earliest latest r meets = meets
+
+  pub fit-promised : (id : ℤ) (r : FirstFit) → fit.Post tt (plan, (id, tt)) r (plan, (id, tt)) → FitPromise plan id r
+  fit-promised id r meets = meets
+
+  pub rows-promised : (r : Rows) → rows.Post tt (plan, tt) r (plan, tt) → RowsPromise plan r
+  rows-promised r meets = meets
