@@ -10,7 +10,7 @@ use Rattle.planner.specs.declared.Answer.{Answer}
 use Rattle.planner.specs.declared.FirstFit.{FirstFit}
 use Rattle.planner.specs.declared.Rows.{Rows}
 use Rattle.planner.specs.Refusals.{numberOf}
-use Rattle.planner.specs.Shown.{idsOf}
+use Rattle.planner.specs.Records.{idsOf}
 use Rattle.command.specs.Decimal.{decimal, signedText}
 
 -- a text after a space

@@ -31,5 +31,5 @@ pub mod Numbers
 pub mod Unique
 pub mod FitInstants
 pub mod HeardFit
-pub mod ShownRow
+pub mod FirstRow
 pub mod Corners

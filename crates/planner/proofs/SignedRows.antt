@@ -25,11 +25,11 @@ use Rattle.sweep.specs.Tasks.{tasksOf, usageOf, runs}
 use Rattle.sweep.proofs.Placed.{get-map}
 use Rattle.planner.specs.declared.RowRecord.{RowRecord}
 use Rattle.planner.specs.Instants.{instant, amount}
-use Rattle.planner.specs.Records.{recordOf, noRecord}
+use Rattle.planner.specs.Records.{recordOf, idsOf, noRecord}
 use Rattle.planner.specs.Loads.{taskOf}
 use Rattle.planner.specs.Sound.{SoundTasks}
 use Rattle.planner.specs.History.{Heard}
-use Rattle.planner.specs.Demand.{runningAt, drawnAt, ExceedsAt, Exceeds, FirstExceeds, recordAt, ids, In, RowOf, Demanded}
+use Rattle.planner.specs.Demand.{runningAt, drawnAt, ExceedsAt, Exceeds, FirstExceeds, recordAt, In, RowOf, Demanded}
 use Rattle.planner.proofs.Tests.{by-test}
 use Rattle.planner.proofs.Ticks.{instant-order, instant-strict}
 use Rattle.planner.proofs.Running.{AtTick, below, placed}
@@ -136,7 +136,7 @@ module _ (h : Heard) (ts : Tasks) (sound : SoundTasks ts) (same : tasksOf ts ≡
             rw (record-at k in-k) (instant-order (rowAt rows k .start) (rowAt rows k .end) ∙ le-leb _ _ (d .proper k in-k));
         lists = λ k t i w.
             let v = in-tick k t w in
-            ap (λ (x : RowRecord). occurs i (ids x)) (record-at k (v .one-of)) ∙ d .lists k (v .tick .at) i (v .there)
+            ap (λ (x : RowRecord). occurs i (idsOf x)) (record-at k (v .one-of)) ∙ d .lists k (v .tick .at) i (v .there)
             ∙ ap bit (sym (run-tick i (v .tick .at)) ∙ ap (runningAt (h .jobs) i) (sym (v .tick .is)));
         sums = λ k t w.
             let v = in-tick k t w in

@@ -30,6 +30,7 @@ drawnFrom [] ss t = 0
 drawnFrom (j ∷ js) [] t = 0
 drawnFrom (j ∷ js) (s ∷ ss) t = cond (runsFrom j s t) (amount (j .usage)) 0 + drawnFrom js ss t
 
+-- the constraint, of these starts
 abbrev pub Cumulative : Heard → List ℤ → Type 0
 Cumulative h ss = (t : ℤ) → drawnFrom (h .jobs) ss t ≤ amount (h .capacity)
 

@@ -5,7 +5,7 @@ use mathlib.Core.List.{List, [], _∷_, map}
 use mathlib.Core.Logic.{_↔_}
 use Prim.Native.Nat.{ℕ, zero, suc, _+_, _<_}
 use lib.IntN.{ℤ}
-use lib.ListN.{length, getD, take}
+use lib.ListN.{length, getD}
 use lib.Signed.{leZ, ltZ}
 use Rattle.time_table.specs.Rows.{rowsOf}
 use Rattle.time_table.specs.Meaning.{bit, occurs}
@@ -14,7 +14,7 @@ use Rattle.planner.specs.declared.RowRecord.{RowRecord}
 use Rattle.planner.specs.declared.Answer.the-variants.{Overloaded}
 use Rattle.planner.specs.declared.Updated.{Updated}
 use Rattle.planner.specs.Instants.{amount, mustRun}
-use Rattle.planner.specs.Records.{recordOf, noRecord}
+use Rattle.planner.specs.Records.{recordOf, idsOf, noRecord}
 use Rattle.planner.specs.History.{Heard}
 
 -- the job must be running at the instant t
@@ -58,17 +58,13 @@ pub record RowOf (rows : List RowRecord) (t : ℤ) : Type 0 where
   pub place : ℕ
   pub there : In rows place t
 
--- the ids of a row, in order
-abbrev pub ids : RowRecord → List ℕ
-ids r = take (r .count) (r .ids)
-
 -- the rows of a live table
 pub record Demanded (jobs : List Job) (rows : List RowRecord) : Type 0 where
   -- are sorted and disjoint, and none is empty
   pub sorted : (j k : ℕ) → j < k → k < length rows → ltZ (recordAt rows j .end) (recordAt rows k .start) ≡ true
   pub proper : (k : ℕ) → k < length rows → leZ (recordAt rows k .start) (recordAt rows k .end) ≡ true
   -- each instant's row lists exactly the tasks that must be running, each once
-  pub lists : (k : ℕ) (t : ℤ) (i : ℕ) → In rows k t → occurs i (ids (recordAt rows k)) ≡ bit (runningAt jobs i t)
+  pub lists : (k : ℕ) (t : ℤ) (i : ℕ) → In rows k t → occurs i (idsOf (recordAt rows k)) ≡ bit (runningAt jobs i t)
   -- with the sum of their draws
   pub sums : (k : ℕ) (t : ℤ) → In rows k t → recordAt rows k .height ≡ drawnAt jobs t
   -- an instant with one has a row, and an instant without one has none

@@ -19,5 +19,5 @@ pub mod Places
 pub mod Unique
 pub mod SignedFit
 pub mod HeardFit
-pub mod ShownRow
+pub mod FirstRow
 pub mod Corners

@@ -29,7 +29,7 @@ use Rattle.planner.specs.Answers.{answerOf, shownRow, livePlan, sweptPla
 use Rattle.planner.specs.Loads.{loadChecked, acceptedLoad}
 use Rattle.planner.specs.Updates.{acceptedUpdate}
 use Rattle.planner.specs.History.{Call, load, update, withoutPlaces, outcome, accepted}
-use Rattle.planner.specs.ShownRow.{FirstShown, Shown}
+use Rattle.planner.specs.FirstRow.{FirstShown, ShowsFirst}
 use Rattle.planner.proofs.Tests.{by-test}
 use Rattle.planner.proofs.Known.{tasks-of}
 use Rattle.planner.proofs.Loading.{load-by}
@@ -60,7 +60,7 @@ module _ (capacity : ℕ) (rows : List Row) where
   scan-none e = conflict-none-over capacity rows (answer-fits (conflictIn capacity rows) e)
 
 -- the ways of a call
-live-shown : (capacity : ℕ) (ts : List Task) (rows : List Row) → Shown (livePlan capacity ts rows)
+live-shown : (capacity : ℕ) (ts : List Task) (rows : List Row) → ShowsFirst (livePlan capacity ts rows)
 live-shown capacity ts rows =
     record {
       live = λ e live. rw (rows-of rows) (scan-shown capacity rows e);
@@ -68,7 +68,7 @@ live-shown capacity ts rows =
       none = λ e. rw (rows-of rows) (scan-none capacity rows e);
     }
 
-swept-shown : (capacity : ℕ) (ts : List Task) → Shown (sweptPlan capacity ts)
+swept-shown : (capacity : ℕ) (ts : List Task) → ShowsFirst (sweptPlan capacity ts)
 swept-shown capacity ts =
     let c = conflictIn capacity (sweep ts) in
     record {
@@ -77,7 +77,7 @@ swept-shown capacity ts =
       none = λ e. rw (answer-fits c e, rows-of (sweep ts)) (scan-none capacity (sweep ts) e);
     }
 
-refused-shown : (plan : Plan) (why : Refusal) → Shown (refusedUpdate plan why)
+refused-shown : (plan : Plan) (why : Refusal) → ShowsFirst (refusedUpdate plan why)
 refused-shown plan why =
     record {
       live = λ e live. absurd (false≢true (ap accepted e));
@@ -85,29 +85,29 @@ refused-shown plan why =
       none = λ e. absurd (false≢true (ap accepted e));
     }
 
-load-shown : (plan : Plan) (jobs : Jobs) (capacity : ℤ) → Shown (outcome plan (load jobs capacity))
+load-shown : (plan : Plan) (jobs : Jobs) (capacity : ℤ) → ShowsFirst (outcome plan (load jobs capacity))
 unfolding acceptedLoad
 load-shown plan jobs capacity = go (loadChecked jobs capacity) refl
   where
-    go : (r : Checked) → loadChecked jobs capacity ≡ r → Shown (outcome plan (load jobs capacity))
-    go Checked.Accepted e = subst Shown (sym (ap withoutPlaces (load-by plan jobs capacity Checked.Accepted e))) (swept-shown (amount capacity) _)
-    go (Checked.Refused why) e = subst Shown (sym (ap withoutPlaces (load-by plan jobs capacity (Checked.Refused why) e))) (refused-shown plan why)
+    go : (r : Checked) → loadChecked jobs capacity ≡ r → ShowsFirst (outcome plan (load jobs capacity))
+    go Checked.Accepted e = subst ShowsFirst (sym (ap withoutPlaces (load-by plan jobs capacity Checked.Accepted e))) (swept-shown (amount capacity) _)
+    go (Checked.Refused why) e = subst ShowsFirst (sym (ap withoutPlaces (load-by plan jobs capacity (Checked.Refused why) e))) (refused-shown plan why)
 
-accepted-shown : (plan : Plan) (i e l : ℕ) → Shown (acceptedUpdate plan i e l)
+accepted-shown : (plan : Plan) (i e l : ℕ) → ShowsFirst (acceptedUpdate plan i e l)
 accepted-shown plan i e l =
     ⊎-elim
     (λ live. ⊎-elim
-    (λ full. subst Shown (sym (accepted-by plan i e l live ∙ live-over-full plan i e l full)) (refused-shown plan _))
-    (λ room. subst Shown (sym (accepted-by plan i e l live ∙ live-with-room plan i e l room)) (live-shown (plan .capacity) (set (tasksOf (plan .tasks)) i (changed plan i e l)) _))
+    (λ full. subst ShowsFirst (sym (accepted-by plan i e l live ∙ live-over-full plan i e l full)) (refused-shown plan _))
+    (λ room. subst ShowsFirst (sym (accepted-by plan i e l live ∙ live-with-room plan i e l room)) (live-shown (plan .capacity) (set (tasksOf (plan .tasks)) i (changed plan i e l)) _))
     (by-test _))
-    (λ stale. subst Shown (sym (accepted-by plan i e l stale)) (swept-shown (plan .capacity) _))
+    (λ stale. subst ShowsFirst (sym (accepted-by plan i e l stale)) (swept-shown (plan .capacity) _))
     (by-test (plan .live))
 
 -- after any call of any plan
-pub shown-first : (plan : Plan) (c : Call) → Shown (outcome plan c)
+pub shown-first : (plan : Plan) (c : Call) → ShowsFirst (outcome plan c)
 shown-first plan (load jobs capacity) = load-shown plan jobs capacity
 shown-first plan (update id earliest latest) =
-    by-update plan id earliest latest Shown (refused-shown plan) (accepted-shown plan (amount id) (tick earliest) (tick latest))
+    by-update plan id earliest latest ShowsFirst (refused-shown plan) (accepted-shown plan (amount id) (tick earliest) (tick latest))
 
 -- an update of a live plan, which stays live
 module _ (plan : Plan) (id earliest latest : ℤ) (live : plan .live ≡ true) where

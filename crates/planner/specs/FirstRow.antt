@@ -1,5 +1,5 @@
 -- The row shown with an answer: the first row that is higher than the capacity, if there is one. That each call shows it is proved
--- (proofs/ShownRow.antt).
+-- (proofs/FirstRow.antt).
 use mathlib.Core.Path.{_≡_}
 use mathlib.Core.Bool.{true, false}
 use mathlib.Core.List.{List}
@@ -21,7 +21,7 @@ pub record FirstShown (capacity : ℕ) (rows : List Row) (shown : RowRecord) : T
   pub first : FirstOver capacity rows row
 
 -- after a call
-pub record Shown (o : Updated) : Type 0 where
+pub record ShowsFirst (o : Updated) : Type 0 where
   -- overloaded, and the table is live afterwards: the first of its rows
   pub live : o .answer ≡ Overloaded → o .plan .live ≡ true → FirstShown (o .plan .capacity) (rowsOf (o .plan .table)) (o .row)
   -- overloaded, and the table is stale: the first of the sweep's rows
