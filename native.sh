@@ -1,5 +1,6 @@
 #!/bin/sh
-# native.sh CRATE OUT: what `rt` compiles for x86-64, compiled for this processor: of the library `script` an object, of a program the program.
+# native.sh CRATE OUT: what `rt` compiles for x86-64, compiled for this processor: of the library `script` an object, of a program the program. A relative OUT is
+# below the repository's root.
 # This runs `rt` with a folder of links to the kit in which clang is a script that keeps the LLVM module that it is handed. Then the kit's own clang
 # compiles that module at -O3, as it did for x86-64; on another processor it says that it ignores the processor x86-64, which the module names.
 set -eu
