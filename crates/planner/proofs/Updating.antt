@@ -3,6 +3,7 @@
 -- Assumes nothing.
 use mathlib.Core.Path.{_≡_, refl, sym, ap, _∙_}
 use mathlib.Core.Bool.{Bool, true, false, cond}
+use mathlib.Core.Logic.{⊎-elim}
 use mathlib.Core.List.{List}
 use Prim.Native.Nat.{ℕ, _≤_, _<_}
 use native.Mathlib.Omega.{arith}
@@ -12,9 +13,8 @@ use lib.Seq.{getD-take}
 use Rattle.time_table.specs.declared.Row.{Row}
 use Rattle.time_table.specs.declared.Table.{Table}
 use Rattle.time_table.specs.declared.Edited.{Edited}
-use Rattle.time_table.specs.Rows.{rowsOf, tableOf}
+use Rattle.time_table.specs.Rows.{rowsOf, tableOf, Clean}
 use Rattle.time_table.specs.Meaning.{Right}
-use Rattle.time_table.specs.Overload.{conflictIn}
 use Rattle.time_table.specs.Update.{updateOver, updatedRows, Updatable}
 use Rattle.time_table.specs.Update.{updated as edited}
 use Rattle.time_table.proofs.Held.{held-set}
@@ -34,6 +34,7 @@ use Rattle.planner.specs.Answers.{livePlan, refusedUpdate}
 use Rattle.planner.specs.Updates.{known, updateChecked, bounded, liveUpdate, staleUpdate, acceptedUpdate, updatedBy, updated}
 use Rattle.planner.proofs.Limits.{ends, sound-within, replaced-sound, replaced-runs, replaced-usage}
 use Rattle.planner.proofs.Known.{tasks-of}
+use Rattle.planner.proofs.Tests.{by-test}
 
 module _ (plan : Plan) (s : Sound plan) (i e l : ℕ) (lt : i < plan .tasks .count) (order : e ≤ l) (top : l ≤ 2000000000) where
   abbrev old : Task
@@ -121,14 +122,10 @@ module _ (plan : Plan) (s : Sound plan) (i e l : ℕ) (lt : i < plan .tasks .cou
 
   -- the answer of an edit of a live table
   module _ (live : plan .live ≡ true) (r : Edited)
-      (is : r ≡ edited (plan .capacity) (partOf i (old plan s i e l lt order top)) (partOf i (new plan s i e l lt order top)) (plan .table)) where
+      (is : r ≡ edited (partOf i (old plan s i e l lt order top)) (partOf i (new plan s i e l lt order top)) (plan .table)) where
     flag : {b : Bool} → r .over ≡ b → updateOver (partOf i (old plan s i e l lt order top)) (partOf i (new plan s i e l lt order top)) (rowsOf (plan .table)) ≡ b
     unfolding edited
     flag f = sym (ap (λ (x : Edited). x .over) is) ∙ f
-
-    pub edit-scanned : r .conflict ≡ conflictIn (plan .capacity) (rowsOf (r .table))
-    unfolding edited
-    edit-scanned = ap (λ (x : Edited). x .conflict) is ∙ ap (λ (x : Edited). conflictIn (plan .capacity) (rowsOf (x .table))) (sym is)
 
     came-to : {b : Bool} → r .over ≡ b
         → r .table ≡ cond b (plan .table) (tableOf (updatedRows (partOf i (old plan s i e l lt order top)) (partOf i (new plan s i e l lt order top)) (rowsOf (plan .table))))
@@ -143,6 +140,9 @@ module _ (plan : Plan) (s : Sound plan) (i e l : ℕ) (lt : i < plan .tasks .cou
 
     pub edit-live : r .over ≡ false → Live stored (r .table)
     edit-live f = rw stored-is (new-live plan s i e l lt order top live (r .table) (fits f))
+
+    pub edit-clean : Clean (r .table)
+    edit-clean = ⊎-elim (λ f. rw (edit-over f .0) (s .live live .clean)) (λ f. edit-live f .clean) (by-test (r .over))
 
     pub edit-whole : r .over ≡ false → livePlan (plan .capacity) (tasksOf stored) (rowsOf (r .table)) ≡ acceptedUpdate plan i e l
     edit-whole f =

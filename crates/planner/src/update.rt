@@ -14,6 +14,7 @@ use crate::border;
 use crate::load;
 use crate::records;
 use sweep::Task;
+use time_table::time_table_over_interval_incremental::find_conflicting_profile;
 use time_table::time_table_over_interval_incremental::update_time_table;
 
 // Whether one of so many tasks has this id.
@@ -64,10 +65,9 @@ pub(crate) fn live_update(plan: Plan, id: usize, earliest: u32, latest: u32) -> 
         plan.table,
         old.mandatory_part(place),
         new.mandatory_part(place),
-        plan.capacity,
     );
     let table = edited.table;
-    let conflict = edited.conflict;
+    let conflict = find_conflicting_profile(table, plan.capacity);
     let mut answer = Answer::Fits;
     let mut row = records::no_record();
     if edited.over {

@@ -16,7 +16,7 @@ use Rattle.time_table.specs.declared.part_by_part.Step.{Step}
 use Rattle.time_table.specs.declared.mandatory_part_adjustments.MandatoryPartAdjustments.{MandatoryPartAdjustments}
 use Rattle.time_table.specs.Held.{Held}
 use Rattle.time_table.specs.Rows.{emptyRow, rowsOf, tableOf, Clean}
-use Rattle.time_table.specs.Table.{judged, verdict}
+use Rattle.time_table.specs.Table.{verdict}
 use Rattle.time_table.specs.Adjustments.{emptyPart, heldParts, partsIn, adjustments, removedParts, addedParts}
 use Rattle.time_table.specs.Order.{Each}
 use Rattle.time_table.specs.Meaning.{Runs}
@@ -212,10 +212,10 @@ module _ (old new : Part) (t : Table) (a : MandatoryPartAdjustments) (e : a ≡ 
         });
       }
 
-  pub ended-is : (capacity : ℕ) (over : Bool) (now : Table) → Ended a t over now → judged capacity over now ≡ updated capacity old new t
+  pub ended-is : (over : Bool) (now : Table) → Ended a t over now → record { table = now; over = over } ≡ updated old new t
   unfolding overAll rowsAll updated
-  ended-is capacity over now e' =
+  ended-is over now e' =
       let flag : over ≡ updateOver old new (rowsOf t) = e' .is-over ∙ rw (out-is, in-is) refl in
       let rows : rowsAll a t ≡ updatedRows old new (rowsOf t) = rw (out-is, in-is) refl in
-      ap (judged capacity over) (e' .is ∙ ap (λ (l : List Row). cond over t (tableOf l)) rows)
-      ∙ ap (λ (b : Bool). verdict capacity b t (updatedRows old new (rowsOf t))) flag
+      ap (λ (now : Table). record { table = now; over = over }) (e' .is ∙ ap (λ (l : List Row). cond over t (tableOf l)) rows)
+      ∙ ap (λ (b : Bool). verdict b t (updatedRows old new (rowsOf t))) flag

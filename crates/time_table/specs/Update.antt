@@ -1,5 +1,5 @@
 -- An update applies all removed parts, then all added ones, each list in its order. If after some one part the table would have over 128 rows,
--- it is over, and the table stays as it was. The answer has the first row of the table that is higher than the capacity.
+-- it is over, and the table stays as it was.
 use mathlib.Core.Bool.{Bool, false, cond, _||_}
 use mathlib.Core.Path.{_≡_}
 use mathlib.Core.List.{List, [], _∷_}
@@ -36,8 +36,8 @@ abbrev pub updateOver : Part → Part → List Row → Bool
 updateOver old new rows =
     overAfter removal (removedParts old new) rows || overAfter insertion (addedParts old new) (after removal (removedParts old new) rows)
 
-unfoldable pub updated : ℕ → Part → Part → Table → Edited
-updated capacity old new t = verdict capacity (updateOver old new (rowsOf t)) t (updatedRows old new (rowsOf t))
+unfoldable pub updated : Part → Part → Table → Edited
+updated old new t = verdict (updateOver old new (rowsOf t)) t (updatedRows old new (rowsOf t))
 
 -- the same tasks run, but for the task id, which runs where b says
 abbrev pub moved : ℕ → (ℕ → Bool) → Runs → Runs

@@ -46,11 +46,10 @@ pub struct Conflict {
     pub row: Row,
 }
 
-// A table after an update, or, where some one part would leave over 128 rows, the table as it was and
-// `over`; and its first row that is too high.
+// A table after an update; or, where some one part would leave over 128 rows, the table as it was, and
+// `over`.
 pub struct Edited {
     pub table: Table,
-    pub conflict: Conflict,
     pub over: bool,
 }
 

@@ -1,6 +1,8 @@
 // The parts of an update applied one by one, and the first row that is too high
 // (the Rust's time_table_over_interval_incremental.rs).
 ghost use mathlib.Core.Path.{_≡_};
+ghost use Rattle.time_table.specs.Rows.{rowsOf, Clean};
+ghost use Rattle.time_table.specs.Overload.{conflictIn};
 ghost use Rattle.time_table.specs.Update.{updated, Updatable};
 use crate::Conflict;
 use crate::Edited;
@@ -11,16 +13,16 @@ use crate::mandatory_part_adjustments::get_mandatory_part_adjustments;
 use crate::part_by_part;
 use crate::pieces::Piece;
 
-// The table of a task's old mandatory part turned into that of its new one, or, where some one part
-// would leave over 128 rows, the table as it was and `over`; and its first row that is too high. First
-// what is removed is done, then what is added. Each part finds the first row that does not end before
-// it, by halving, and goes on from there: it reads the rows at `i`, writes what becomes of them at `n`,
-// and clears the places of old rows that are left behind. Rows that would be written over before they
-// are read are read from a copy, `source`. One function does it all, since to hand the rows to another
-// would copy them.
-pub fn update_time_table(table: Table, old: Part, new: Part, capacity: u32) -> Edited
+// The table of a task's old mandatory part turned into that of its new one; or, where some one part
+// would leave over 128 rows, the table as it was, and `over`. First what is removed is done, then what
+// is added. Each part finds the first row that does not end before it, by halving, and goes on from
+// there: it reads the rows at `i`, writes what becomes of them at `n`, and clears the places of old
+// rows that are left behind. Rows that would be written over before they are read are read from a
+// copy, `source`. One function does it all, since to hand the rows to another inside a loop would copy
+// them.
+pub fn update_time_table(table: Table, old: Part, new: Part) -> Edited
     requires { ⌜ Updatable old new table ⌝ }
-    ensures { λ r. ⌜ r ≡ updated capacity old new table ⌝ }
+    ensures { λ r. ⌜ r ≡ updated old new table ⌝ }
 {
     let adjustments = get_mandatory_part_adjustments(old, new);
     let steps = adjustments.removed.count + adjustments.added.count;
@@ -125,22 +127,29 @@ pub fn update_time_table(table: Table, old: Part, new: Part, capacity: u32) -> E
         rows = table.rows;
         count = table.count;
     }
-    let mut conflict = Conflict {
-        found: false,
-        row: empty,
-    };
+    Edited {
+        table: Table { rows, count },
+        over,
+    }
+}
+
+// The first row that is higher than the capacity. The rows are a variable of their own, since to look
+// them up in the table would copy it.
+pub fn find_conflicting_profile(table: Table, capacity: u32) -> Conflict
+    requires { ⌜ Clean table ⌝ }
+    ensures { λ r. ⌜ r ≡ conflictIn capacity (rowsOf table) ⌝ }
+{
+    let rows = table.rows;
     let mut at = 0;
-    while at < count {
+    while at < table.count {
         let row = rows[at];
         if capacity < row.height {
-            conflict = Conflict { found: true, row };
-            break;
+            return Conflict { found: true, row };
         }
         at += 1;
     }
-    Edited {
-        table: Table { rows, count },
-        conflict,
-        over,
+    Conflict {
+        found: false,
+        row: Row::empty(),
     }
 }

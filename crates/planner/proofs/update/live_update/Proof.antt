@@ -5,7 +5,6 @@ use mathlib.Core.Bool.{true}
 use lib.ListN.{getD}
 use Rattle.time_table.specs.declared.Part.{Part}
 use Rattle.time_table.specs.Rows.{rowsOf}
-use Rattle.time_table.specs.Overload.{conflictIn}
 use Rattle.time_table.specs.Update.{updated}
 use Rattle.sweep.specs.declared.Tasks.{Tasks}
 use Rattle.sweep.specs.Tasks.{noTask, tasksOf, taskAt, partOf}
@@ -16,7 +15,7 @@ use Rattle.planner.specs.Answers.{livePlan}
 use Rattle.planner.specs.Updates.{bounded, acceptedUpdate}
 use Rattle.planner.proofs.Limits.{ends}
 use Rattle.planner.proofs.Answering.{live-sound, shown-low, live-over, live-fits}
-use Rattle.planner.proofs.Updating.{read-is, updatable, stored, stored-sound, edit-scanned, edit-over, edit-live, edit-whole}
+use Rattle.planner.proofs.Updating.{read-is, updatable, stored, stored-sound, edit-over, edit-live, edit-clean, edit-whole}
 use borrow.Author.Needs.{needs}
 use native.Mathlib.Omega.{arith}
 use Rattle.planner.proofs.update.live_update.Statement.{statement}
@@ -79,10 +78,16 @@ update-time-table-requires c κs =
 
 -- the edit is from the one to the other
 edit : (c : tie.After-update-time-table)
-    → c .update-time-table .result ≡ updated (first (c .before) .args .plan .capacity) (oldPart (c .before)) (newPart (c .before)) (first (c .before) .args .plan .table)
+    → c .update-time-table .result ≡ updated (oldPart (c .before)) (newPart (c .before)) (first (c .before) .args .plan .table)
 edit c =
     c .update-time-table .ensures
-    ∙ (λ i. updated (first (c .before) .args .plan .capacity) (old-part (c .before) i) (new-part (c .before) i) (first (c .before) .args .plan .table))
+    ∙ (λ i. updated (old-part (c .before) i) (new-part (c .before) i) (first (c .before) .args .plan .table))
+
+find-conflicting-profile-requires : tie.Need-find-conflicting-profile-requires
+find-conflicting-profile-requires c κs =
+    let u = c .before in
+    let a = first (u .before) in
+    edit-clean (a .args .plan) (a .pre .0) (a .args .id) (a .args .earliest) (a .args .latest) (a .pre .2) (a .pre .3) (a .pre .4) _ (new-is (u .before .before .before)) (a .pre .1) _ (edit u)
 
 no-record-requires : tie.Need-no-record-requires
 no-record-requires c κs = search needs
@@ -104,9 +109,6 @@ module _ (c : tie.Else1) where
   sound : SoundTasks tasks
   sound = let a = first (edited .before) in stored-sound (a .args .plan) (a .pre .0) (a .args .id) (a .args .earliest) (a .args .latest) (a .pre .2) (a .pre .3) (a .pre .4) _ (new-is (edited .before .before .before))
 
-  scanned : edited .update-time-table .result .conflict ≡ conflictIn (first (edited .before) .args .plan .capacity) (rowsOf (edited .update-time-table .result .table))
-  scanned = let a = first (edited .before) in edit-scanned (a .args .plan) (a .pre .0) (a .args .id) (a .args .earliest) (a .args .latest) (a .pre .2) (a .pre .3) (a .pre .4) _ (new-is (edited .before .before .before)) (a .pre .1) _ (edit edited)
-
   right : Live tasks (edited .update-time-table .result .table)
   right = let a = first (edited .before) in edit-live (a .args .plan) (a .pre .0) (a .args .id) (a .args .earliest) (a .args .latest) (a .pre .2) (a .pre .3) (a .pre .4) _ (new-is (edited .before .before .before)) (a .pre .1) _ (edit edited) (c .if1 .left)
 
@@ -120,7 +122,7 @@ module _ (c : tie.Else1) where
 record-of-requires : tie.Need-record-of-requires
 record-of-requires c κs =
     let d = c .before in
-    shown-low _ (tasks d) _ (sound d) (right d) (first (edited d .before) .pre .0 .capacity) _ (scanned d) (c .if2 .taken)
+    shown-low _ (tasks d) _ (sound d) (right d) (first (edited d .before) .pre .0 .capacity) _ (d .before .before .find-conflicting-profile .ensures) (c .if2 .taken)
 
 returns : tie.Need-returns
 returns c =
@@ -134,12 +136,12 @@ returns c =
 returns-2 : tie.Need-returns-2
 returns-2 c =
     let d = c .before .before in
-    (live-over _ (tasks d) _ (sound d) (right d) (first (edited d .before) .pre .0 .capacity) _ (scanned d) _ (c .before .if2 .taken) (c .record-of .ensures) ∙ whole d, kept d)
+    (live-over _ (tasks d) _ (sound d) (right d) (first (edited d .before) .pre .0 .capacity) _ (d .before .before .find-conflicting-profile .ensures) _ (c .before .if2 .taken) (c .record-of .ensures) ∙ whole d, kept d)
 
 returns-3 : tie.Need-returns-3
 returns-3 c =
     let d = c .before in
-    (live-fits _ (tasks d) _ (sound d) (right d) (first (edited d .before) .pre .0 .capacity) _ (scanned d) _ (c .if2 .left) (d .before .no-record .ensures) ∙ whole d, kept d)
+    (live-fits _ (tasks d) _ (sound d) (right d) (first (edited d .before) .pre .0 .capacity) _ (d .before .before .find-conflicting-profile .ensures) _ (c .if2 .left) (d .before .no-record .ensures) ∙ whole d, kept d)
 
 pub live-update-spec : {M : Type 1} → statement M
 live-update-spec =
@@ -152,6 +154,7 @@ live-update-spec =
     mandatory-part-requires
     mandatory-part-requires-2
     update-time-table-requires
+    find-conflicting-profile-requires
     no-record-requires
     mul-new
     element-set-from-new
