@@ -14,6 +14,7 @@ use crate::border;
 use crate::load;
 use crate::records;
 use sweep::Task;
+use sweep::Tasks;
 use time_table::time_table_over_interval_incremental::find_conflicting_profile;
 use time_table::time_table_over_interval_incremental::update_time_table;
 
@@ -51,14 +52,17 @@ pub(crate) fn rebounded(task: Task, earliest: u32, latest: u32) -> Task
 }
 
 // An update of a live plan that is accepted but for the table's room: the table is edited. There is one
-// exit, since each further one would copy the plan once more.
+// exit, since each further one would copy the plan once more, and the list of tasks is a variable of its
+// own, since to look a task up in the struct would copy it.
 pub(crate) fn live_update(plan: Plan, id: usize, earliest: u32, latest: u32) -> Updated
     requires { ⌜ Sound plan × (plan .live ≡ true) × (id < plan .tasks .count) × (earliest ≤ latest) × (latest ≤ 2000000000) ⌝ }
     ensures { λ r. ⌜ r ≡ acceptedUpdate plan id earliest latest ⌝ }
     ensures { λ r. ⌜ Sound (r .plan) ⌝ }
 {
-    let mut tasks = plan.tasks;
-    let old = tasks.list[id];
+    let tasks = plan.tasks;
+    let mut list = tasks.list;
+    let count = tasks.count;
+    let old = list[id];
     let new = rebounded(old, earliest, latest);
     let place = id as u8;
     let edited = update_time_table(
@@ -73,7 +77,7 @@ pub(crate) fn live_update(plan: Plan, id: usize, earliest: u32, latest: u32) -> 
     if edited.over {
         answer = Answer::Refused(Refusal::TooManyRows);
     } else {
-        tasks.list[id] = new;
+        list[id] = new;
         if conflict.found {
             answer = Answer::Overloaded;
             row = records::record_of(conflict.row);
@@ -82,7 +86,7 @@ pub(crate) fn live_update(plan: Plan, id: usize, earliest: u32, latest: u32) -> 
     Updated {
         plan: Plan {
             table,
-            tasks,
+            tasks: Tasks { list, count },
             capacity: plan.capacity,
             live: true,
         },

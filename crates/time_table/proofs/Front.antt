@@ -1,5 +1,5 @@
--- Rows written over others in their place, from the front on: what is written, and then what was there; rows not read yet that are written over stand in
--- a copy; and the places behind are cleared, as far as the old rows went.
+-- Rows written over others in their place, from the front on: what is written, and then what was there; and the places behind are cleared, as far as the
+-- old rows went.
 -- Assumes nothing.
 use mathlib.Core.Path.{_≡_, sym, ap, _∙_}
 use mathlib.Core.List.{List, [], _∷_, _++_, append-assoc, append-nil}
@@ -12,7 +12,7 @@ use lib.Seq.{drop-cons, set-at, append-snoc, drop-drop, drop-at, getD-append-add
 use Rattle.time_table.specs.declared.Row.{Row}
 use Rattle.time_table.specs.declared.Table.{Table}
 use Rattle.time_table.specs.Held.{Held}
-use Rattle.time_table.specs.Rows.{emptyRow, noRow, rowAt, rowsOf, Clean}
+use Rattle.time_table.specs.Rows.{emptyRow, rowsOf, Clean}
 
 -- the first n of a list of `cap` are `done`, and from there on it is another list
 pub record Front {A : Type 0} (cap : ℕ) (source rows : List A) (n : ℕ) (done : List A) : Type 0 where
@@ -33,7 +33,7 @@ module _ {A : Type 0} {cap n : ℕ} {source rows done : List A} (f : Front cap s
   longer : (x : A) → n + 1 ≡ length (done ++ x ∷ [])
   longer x = rw length-append (omega (arith, f .counts))
 
-  -- one more stored; or left where it is
+  -- one more stored
   pub front-store : n < cap → (x : A) → Front cap source (set rows n x) (n + 1) (done ++ x ∷ [])
   front-store lt x =
       record {
@@ -43,36 +43,12 @@ module _ {A : Type 0} {cap n : ℕ} {source rows done : List A} (f : Front cap s
         fits = omega arith;
       }
 
-  pub front-skip : (d : A) → n < cap → Front cap source rows (n + 1) (done ++ getD source n d ∷ [])
-  front-skip d lt = record { is = rw append-snoc (opened d lt); counts = longer (getD source n d); size = f .size; fits = omega arith }
-
   -- what is behind is as it was
   pub front-behind : (d : A) (x : ℕ) → n ≤ x → getD rows x d ≡ getD source x d
   front-behind d x le =
       let past : x ≡ length done + (x - n) = omega (arith, f .counts) in
       let there : n + (x - n) ≡ x = omega arith in
       (λ i. getD (f .is i) (past i) d) ∙ getD-append-add done (drop n source) (x - n) d ∙ getD-drop n source (x - n) d ∙ ap (λ (k : ℕ). getD source k d) there
-
--- where more rows are laid than read, those not read yet stand in a copy
-pub record Kept (source copy : List Row) (n i : ℕ) : Type 0 where
-  pub same : i < n → (x : ℕ) → i ≤ x → rowAt copy x ≡ rowAt source x
-
--- the copy is made where the next row to be read is about to be laid over
-pub kept-copy : {source rows done : List Row} {n i : ℕ} → Front 128 source rows n done → n ≡ i → Kept source rows (n + 1) i
-kept-copy f e = record { same = λ lt x le. front-behind f noRow x (omega arith) }
-
-module _ {source copy : List Row} {n i : ℕ} (k : Kept source copy n i) where
-  pub kept-piece : (n ≡ i → ⊥) → Kept source copy (n + 1) i
-  kept-piece ne = record { same = λ lt x le. k .same (omega arith) x le }
-
-  pub kept-read : Kept source copy n (i + 1)
-  kept-read = record { same = λ lt x le. k .same (omega arith) x (omega arith) }
-
-  pub kept-moves : Kept source copy (n + 1) (i + 1)
-  kept-moves = record { same = λ lt x le. k .same (omega arith) x (omega arith) }
-
-pub kept-level : {source copy : List Row} {n i : ℕ} → n ≤ i → Kept source copy n i
-kept-level le = record { same = λ lt. absurd (omega arith) }
 
 -- the places behind the rows are cleared one by one
 drop-replicate : {A : Type 0} (k m : ℕ) (a : A) → drop k (replicate m a) ≡ replicate (m - k) a

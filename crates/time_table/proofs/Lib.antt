@@ -31,7 +31,10 @@ pub mod Demanded
 pub mod Overloaded
 pub mod Piecewise
 pub mod Front
+pub mod Rising
+pub mod Stepped
 pub mod Laying
+pub mod Leading
 pub mod Edits
 pub mod Updates
 pub mod Meets

@@ -1,8 +1,8 @@
--- The first row that is higher than the capacity, if there is one.
+-- The first row that is higher than the capacity, if there is one; and the greatest height.
 use mathlib.Core.Bool.{true, false, cond}
 use mathlib.Core.Path.{_≡_}
 use mathlib.Core.List.{List, [], _∷_}
-use Prim.Native.Nat.{ℕ, _≤_, _<_}
+use Prim.Native.Nat.{ℕ, _≤_, _<_, max}
 use lib.Dec.{ltb}
 use lib.ListN.{length}
 use Rattle.time_table.specs.declared.Row.{Row}
@@ -12,6 +12,11 @@ use Rattle.time_table.specs.Rows.{emptyRow, rowAt}
 unfoldable pub conflictIn : ℕ → List Row → Conflict
 conflictIn capacity [] = record { found = false; row = emptyRow }
 conflictIn capacity (r ∷ rs) = cond (ltb capacity (r .height)) (record { found = true; row = r }) (conflictIn capacity rs)
+
+-- the greatest height
+unfoldable pub highest : List Row → ℕ
+highest [] = 0
+highest (r ∷ rs) = max (r .height) (highest rs)
 
 -- r is the earliest row that is higher than the capacity
 pub record FirstOver (capacity : ℕ) (rows : List Row) (r : Row) : Type 0 where

@@ -74,7 +74,7 @@ pub(crate) fn overlap_updated_profile(part: Part, profile: Row) -> Piece
     let lower = pieces::greatest(part.from, profile.start);
     let upper = pieces::least(part.until, profile.end + 1);
     if upper <= lower {
-        return Piece::none(3);
+        return Piece::none(profile, 3);
     }
     Piece::cut(add_task_to_profile(profile, part), lower, upper, 3)
 }

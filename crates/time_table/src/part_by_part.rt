@@ -113,11 +113,12 @@ pub(crate) fn next_piece(taking: bool, part: Part, profile: Row, j: usize) -> Pi
 pub(crate) fn last_profile(step: Step, from: u32) -> Piece
     ensures { λ r. ⌜ Cuts r 4 (madeLast step from) ⌝ }
 {
-    if step.taking {
-        return Piece::none(4);
-    }
     let part = step.part;
-    Piece::cut(checks::new_profile(part), from, part.until, 4)
+    let profile = checks::new_profile(part);
+    if step.taking {
+        return Piece::none(profile, 4);
+    }
+    Piece::cut(profile, from, part.until, 4)
 }
 
 // The instant to which a part has come behind a row.

@@ -6,7 +6,7 @@ ghost use Rattle.time_table.specs.Rows.{cut};
 ghost use Rattle.time_table.specs.Pieces.{Cuts};
 use crate::Row;
 
-// A piece of a row, if there is one, else the empty row; and the number of the piece to look for next.
+// A piece of a row, if there is one (else any row); and the number of the piece to look for next.
 pub struct Piece {
     pub row: Row,
     pub next: usize,
@@ -17,12 +17,12 @@ impl Piece {
     // How many pieces a row falls into at most.
     pub const ALL: usize = 4;
 
-    // No piece.
-    pub(crate) fn none(next: usize) -> Piece
+    // No piece of a row.
+    pub(crate) fn none(row: Row, next: usize) -> Piece
         ensures { λ r. ⌜ Cuts r next [] ⌝ }
     {
         Piece {
-            row: Row::empty(),
+            row,
             next,
             some: false,
         }
@@ -33,7 +33,7 @@ impl Piece {
         ensures { λ r. ⌜ Cuts r next (cut row x y) ⌝ }
     {
         if y <= x {
-            return Piece::none(next);
+            return Piece::none(row, next);
         }
         let mut piece = row;
         piece.start = x;

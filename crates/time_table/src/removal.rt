@@ -51,12 +51,12 @@ pub(crate) fn overlap_updated_profile(part: Part, profile: Row) -> Piece
     ensures { λ r. ⌜ Cuts r 3 (lessened part profile) ⌝ }
 {
     if profile.height == part.usage {
-        return Piece::none(3);
+        return Piece::none(profile, 3);
     }
     let lower = pieces::greatest(part.from, profile.start);
     let upper = pieces::least(part.until, profile.end + 1);
     if upper <= lower {
-        return Piece::none(3);
+        return Piece::none(profile, 3);
     }
     Piece::cut(remove_task_from_profile(profile, part), lower, upper, 3)
 }

@@ -2,7 +2,7 @@
 // (the Rust's time_table_over_interval_incremental.rs).
 ghost use mathlib.Core.Path.{_≡_};
 ghost use Rattle.time_table.specs.Rows.{rowsOf, Clean};
-ghost use Rattle.time_table.specs.Overload.{conflictIn};
+ghost use Rattle.time_table.specs.Overload.{highest, conflictIn};
 ghost use Rattle.time_table.specs.Update.{updated, Updatable};
 use crate::Conflict;
 use crate::Edited;
@@ -17,9 +17,9 @@ use crate::pieces::Piece;
 // would leave over 128 rows, the table as it was, and `over`. First what is removed is done, then what
 // is added. Each part finds the first row that does not end before it, by halving, and goes on from
 // there: it reads the rows at `i`, writes what becomes of them at `n`, and clears the places of old
-// rows that are left behind. Rows that would be written over before they are read are read from a
-// copy, `source`. One function does it all, since to hand the rows to another inside a loop would copy
-// them.
+// rows that are left behind. Where a piece would be written over a row that is not read yet, the rows
+// not read yet go to the end of the table first. One function does it all, since to hand the rows to
+// another inside a loop would copy them.
 pub fn update_time_table(table: Table, old: Part, new: Part) -> Edited
     requires { ⌜ Updatable old new table ⌝ }
     ensures { λ r. ⌜ r ≡ updated old new table ⌝ }
@@ -29,7 +29,6 @@ pub fn update_time_table(table: Table, old: Part, new: Part) -> Edited
     let mut rows = table.rows;
     let mut count = table.count;
     let empty = Row::empty();
-    let mut source = [empty; 128];
     let mut over = false;
     let mut k = 0;
     'parts: while k < steps {
@@ -40,18 +39,19 @@ pub fn update_time_table(table: Table, old: Part, new: Part) -> Edited
         let mut came = from;
         let mut j = Piece::ALL;
         let mut low = 0;
-        let mut high = count;
-        while low < high {
-            let middle = low + (high - low) / 2;
-            let row = rows[middle];
+        let mut left = count;
+        while 0 < left {
+            let half = left - left / 2;
+            left /= 2;
+            let row = rows[low + half - 1];
             if row.end < step.part.from {
-                low = middle + 1;
-            } else {
-                high = middle;
+                low += half;
             }
         }
         let mut i = low;
         let mut n = low;
+        // the row at `i`, where a piece is written over it since the table is full
+        let mut held = empty;
         while i < count || j < Piece::ALL {
             if j < Piece::ALL {
                 // a piece of the row before may be still to be written
@@ -59,12 +59,30 @@ pub fn update_time_table(table: Table, old: Part, new: Part) -> Edited
                 let piece = part_by_part::next_piece(step.taking, part, row, j);
                 j = piece.next;
                 if piece.some {
-                    if n == Table::ROWS {
+                    if i < count {
+                        // a second row is in the way, and the table is full: there will be too many rows
+                        if i < n {
+                            over = true;
+                            break 'parts;
+                        }
+                        if n == i {
+                            held = rows[i];
+                            if count < Table::ROWS {
+                                // the rows not read yet go to the end of the table
+                                let mut top = Table::ROWS;
+                                while i < count {
+                                    count -= 1;
+                                    top -= 1;
+                                    let moved = rows[count];
+                                    rows[top] = moved;
+                                }
+                                i = top;
+                                count = Table::ROWS;
+                            }
+                        }
+                    } else if n == Table::ROWS {
                         over = true;
                         break 'parts;
-                    }
-                    if n == i {
-                        source = rows;
                     }
                     let laid = piece.row;
                     rows[n] = laid;
@@ -73,7 +91,7 @@ pub fn update_time_table(table: Table, old: Part, new: Part) -> Edited
             } else {
                 let mut next = rows[i];
                 if i < n {
-                    next = source[i];
+                    next = held;
                 }
                 // a row that the part changes; else it stays in its place, or moves, and so do all behind it
                 if !part_by_part::is_untouched(step, from, next) {
@@ -82,22 +100,16 @@ pub fn update_time_table(table: Table, old: Part, new: Part) -> Edited
                     j = 0;
                     from = part_by_part::instant_behind(step.part, from, next);
                     i += 1;
+                } else if i < n {
+                    over = true;
+                    break 'parts;
                 } else if n == i {
                     n = count;
                     i = count;
                 } else {
                     while i < count {
-                        if n == Table::ROWS {
-                            over = true;
-                            break 'parts;
-                        }
-                        if i < n {
-                            let moved = source[i];
-                            rows[n] = moved;
-                        } else {
-                            let moved = rows[i];
-                            rows[n] = moved;
-                        }
+                        let moved = rows[i];
+                        rows[n] = moved;
                         n += 1;
                         i += 1;
                     }
@@ -133,20 +145,41 @@ pub fn update_time_table(table: Table, old: Part, new: Part) -> Edited
     }
 }
 
-// The first row that is higher than the capacity. The rows are a variable of their own, since to look
-// them up in the table would copy it.
+// The greatest height of the rows. The rows are a variable of their own, since to look them up in the
+// table would copy it.
+pub(crate) fn highest(table: Table) -> u32
+    requires { ⌜ Clean table ⌝ }
+    ensures { λ r. ⌜ r ≡ highest (rowsOf table) ⌝ }
+{
+    let rows = table.rows;
+    let mut highest = 0;
+    let mut at = 0;
+    while at < table.count {
+        let row = rows[at];
+        at += 1;
+        if highest < row.height {
+            highest = row.height;
+        }
+    }
+    highest
+}
+
+// The first row that is higher than the capacity. They are gone through only if one is, since to look
+// for the greatest height is faster.
 pub fn find_conflicting_profile(table: Table, capacity: u32) -> Conflict
     requires { ⌜ Clean table ⌝ }
     ensures { λ r. ⌜ r ≡ conflictIn capacity (rowsOf table) ⌝ }
 {
     let rows = table.rows;
-    let mut at = 0;
-    while at < table.count {
-        let row = rows[at];
-        if capacity < row.height {
-            return Conflict { found: true, row };
+    if capacity < highest(table) {
+        let mut at = 0;
+        while at < table.count {
+            let row = rows[at];
+            if capacity < row.height {
+                return Conflict { found: true, row };
+            }
+            at += 1;
         }
-        at += 1;
     }
     Conflict {
         found: false,

@@ -24,7 +24,7 @@ use Rattle.planner.proofs.update.live_update.Tie as tie
 -- the task as it was read, and as it is to be
 module _ (c : tie.After-rebounded) where
   abbrev start : tie.Start
-  start = c .before .before .before
+  start = c .before .before .before .before
 
   read : getD (start .args .plan .tasks .list) (start .args .id) noTask ≡ taskAt (tasksOf (start .args .plan .tasks)) (start .args .id)
   read = let a = start in read-is (a .args .plan) (a .pre .0) (a .args .id) (a .args .earliest) (a .args .latest) (a .pre .2) (a .pre .3) (a .pre .4)
@@ -33,16 +33,16 @@ module _ (c : tie.After-rebounded) where
   new-is = rw read at (c .rebounded .ensures)
 
 mul-old : tie.Need-mul-old
-mul-old c = omega (arith, c .before .pre .0 .tasks .held .fits)
+mul-old c = omega (arith, c .before .before .pre .0 .tasks .held .fits)
 
-element-copy-out-old : tie.Need-element-copy-out-old
-element-copy-out-old c = omega (arith, c .before .pre .0 .tasks .held .fits)
+array-copy-out-old : tie.Need-array-copy-out-old
+array-copy-out-old c = omega (arith, c .before .before .pre .0 .tasks .held .fits)
 
 rebounded-requires : tie.Need-rebounded-requires
 rebounded-requires c κs = search needs
 
 cast-place : tie.Need-cast-place
-cast-place c = omega (arith, c .before .before .before .pre .0 .tasks .held .fits)
+cast-place c = omega (arith, c .before .before .before .before .pre .0 .tasks .held .fits)
 
 mandatory-part-requires : tie.Need-mandatory-part-requires
 mandatory-part-requires c κs =
@@ -92,11 +92,11 @@ find-conflicting-profile-requires c κs =
 no-record-requires : tie.Need-no-record-requires
 no-record-requires c κs = search needs
 
-mul-new : tie.Need-mul-new
-mul-new c = omega (arith, c .before .before .before .before .before .before .before .before .before .before .pre .0 .tasks .held .fits)
+mul-list : tie.Need-mul-list
+mul-list c = omega (arith, c .before .before .before .before .before .before .before .before .before .before .before .pre .0 .tasks .held .fits)
 
-element-set-from-new : tie.Need-element-set-from-new
-element-set-from-new c = omega (arith, c .before .before .before .before .before .before .before .before .before .before .pre .0 .tasks .held .fits)
+array-set-from-list : tie.Need-array-set-from-list
+array-set-from-list c = omega (arith, c .before .before .before .before .before .before .before .before .before .before .before .pre .0 .tasks .held .fits)
 
 -- it has room, and the table is then right for the tasks with the new one
 module _ (c : tie.Else1) where
@@ -148,7 +148,7 @@ live-update-spec =
     tie.close
     (tie.spec
     mul-old
-    element-copy-out-old
+    array-copy-out-old
     rebounded-requires
     cast-place
     mandatory-part-requires
@@ -156,8 +156,8 @@ live-update-spec =
     update-time-table-requires
     find-conflicting-profile-requires
     no-record-requires
-    mul-new
-    element-set-from-new
+    mul-list
+    array-set-from-list
     record-of-requires
     returns
     returns-2
