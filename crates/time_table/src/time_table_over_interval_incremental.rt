@@ -17,9 +17,14 @@ use crate::pieces::Piece;
 // would leave over 128 rows, the table as it was, and `over`. First what is removed is done, then what
 // is added. Each part finds the first row that does not end before it, by halving, and goes on from
 // there: it reads the rows at `i`, writes what becomes of them at `n`, and clears the places of old
-// rows that are left behind. Where a piece would be written over a row that is not read yet, the rows
-// not read yet go to the end of the table first. One function does it all, since to hand the rows to
-// another inside a loop would copy them.
+// rows that are left behind. So the array has, while a part is done,
+//
+//     0 .. n      what is done
+//     n .. i      free places
+//     i .. count  the rows that are not read yet
+//
+// and where a piece has no free place, the rows that are not read yet first go to the end of the array.
+// One function does it all, since to hand the rows to another inside a loop would copy them.
 pub fn update_time_table(table: Table, old: Part, new: Part) -> Edited
     requires { ⌜ Updatable old new table ⌝ }
     ensures { λ r. ⌜ r ≡ updated old new table ⌝ }
