@@ -8,10 +8,11 @@ use native.Mathlib.Omega.{arith}
 use Rattle.time_table.specs.declared.Row.{Row}
 use Rattle.time_table.specs.declared.Part.{Part}
 use Rattle.time_table.specs.declared.pieces.Piece.{Piece}
+use Rattle.time_table.specs.declared.part_by_part.Step.{Step}
 use Rattle.time_table.specs.Pieces.{Cuts, beforePart}
-use Rattle.time_table.specs.Insertion.{Insertable}
+use Rattle.time_table.specs.Insertion.{alone, startedAt, Insertable}
 use Rattle.time_table.specs.Removal.{Removable}
-use Rattle.time_table.specs.Stepping.{gapIn, coveredIn, piecesFrom, NextPiece, Changeable}
+use Rattle.time_table.specs.Stepping.{partAt, gapIn, coveredIn, piecesFrom, NextPiece, Changeable}
 
 pub no-piece : (piece : Piece) {next : ℕ} {l : List Row} → Cuts piece next l → piece .some ≡ false → l ≡ []
 no-piece piece c e = sym (c .0) ∙ ap (λ (b : Bool). cond b (piece .row ∷ []) []) e
@@ -43,3 +44,11 @@ module _ (taking : Bool) (p : Part) (r : Row) where
       go : (b : Bool) → (b ≡ true → Removable p r) → (b ≡ false → Insertable p r) → r .end + 1 < 2 ^ 32
       go true out into = out refl .room
       go false out into = into refl .room
+
+-- the part of a step has the same task, wherever the step has come
+pub alone-at : (s : Step) (x : ℕ) → alone (partAt s x) ≡ alone (s .part)
+alone-at s x = go (s .taking)
+  where
+    go : (b : Bool) → alone (cond b (s .part) (startedAt (s .part) x)) ≡ alone (s .part)
+    go true = refl
+    go false = refl

@@ -41,16 +41,13 @@ pub(crate) fn add_task_to_profile(profile: Row, part: Part) -> Row
     row
 }
 
-// The uncovered piece before the row: before the first, or in the gap between two.
-pub(crate) fn new_profile_before_profile(part: Part, profile: Row) -> Piece
+// The uncovered piece before the row: before the first, or in the gap between two. `lone` is a row of
+// the part's task alone.
+pub(crate) fn new_profile_before_profile(part: Part, lone: Row, profile: Row) -> Piece
+    requires { ⌜ lone ≡ alone part ⌝ }
     ensures { λ r. ⌜ Cuts r 1 (gapBefore part profile) ⌝ }
 {
-    Piece::cut(
-        new_profile(part),
-        part.from,
-        pieces::least(part.until, profile.start),
-        1,
-    )
+    Piece::cut(lone, part.from, pieces::least(part.until, profile.start), 1)
 }
 
 // The untouched left piece of the row.

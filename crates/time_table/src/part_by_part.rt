@@ -2,12 +2,11 @@
 ghost use mathlib.Core.Path.{_≡_};
 ghost use Prim.Native.Nat.{_+_, _<_, _≤_, _^_};
 ghost use Rattle.time_table.specs.Pieces.{Cuts};
-ghost use Rattle.time_table.specs.Insertion.{startedAt, pastRow};
-ghost use Rattle.time_table.specs.Stepping.{stepAt, partAt, untouched, coveredIn, NextPiece, madeLast, Changeable};
+ghost use Rattle.time_table.specs.Insertion.{alone, startedAt, pastRow};
+ghost use Rattle.time_table.specs.Stepping.{partAt, untouched, coveredIn, NextPiece, madeLast, Changeable};
 use crate::Part;
 use crate::Row;
 use crate::checks;
-use crate::mandatory_part_adjustments::MandatoryPartAdjustments;
 use crate::pieces;
 use crate::pieces::Piece;
 use crate::removal;
@@ -17,25 +16,6 @@ use crate::time_table_util::has_overlap_with_interval;
 pub struct Step {
     pub part: Part,
     pub taking: bool,
-}
-
-// The steps of an update by number: first the parts that are removed, then those that are added.
-pub(crate) fn step_at(adjustments: MandatoryPartAdjustments, k: usize) -> Step
-    requires { ⌜ (adjustments .removed .count ≤ 2) × (adjustments .added .count ≤ 2) ⌝ }
-    requires { ⌜ k < adjustments .removed .count + adjustments .added .count ⌝ }
-    ensures { λ r. ⌜ r ≡ stepAt adjustments k ⌝ }
-{
-    let removed = adjustments.removed;
-    if k < removed.count {
-        let part = removed.parts[k];
-        return Step { part, taking: true };
-    }
-    let added = adjustments.added;
-    let part = added.parts[k - removed.count];
-    Step {
-        part,
-        taking: false,
-    }
 }
 
 // Whether a row stays as it is and nothing is laid before it. `from` is the instant up to which the
@@ -81,14 +61,15 @@ pub(crate) fn covered_piece(taking: bool, part: Part, profile: Row) -> Piece
 }
 
 // Of the four pieces that a part makes of a row (0 the gap before it, 1 left, 2 covered, 3 right), the
-// first from number j on that is there; none if there is none.
-pub(crate) fn next_piece(taking: bool, part: Part, profile: Row, j: usize) -> Piece
-    requires { ⌜ Changeable taking part profile × (j < 4) ⌝ }
+// first from number j on that is there; none if there is none. `lone` is a row of the part's task
+// alone.
+pub(crate) fn next_piece(taking: bool, part: Part, lone: Row, profile: Row, j: usize) -> Piece
+    requires { ⌜ Changeable taking part profile × (j < 4) × (lone ≡ alone part) ⌝ }
     ensures { λ r. ⌜ NextPiece taking part profile j r ⌝ }
 {
     if j == 0 {
         if !taking {
-            let gap = checks::new_profile_before_profile(part, profile);
+            let gap = checks::new_profile_before_profile(part, lone, profile);
             if gap.some {
                 return gap;
             }
@@ -109,16 +90,17 @@ pub(crate) fn next_piece(taking: bool, part: Part, profile: Row, j: usize) -> Pi
     checks::split_profile_added_part_ends_before_profile_end(part, profile)
 }
 
-// What a step that has come to the instant `from` lays behind the last row.
-pub(crate) fn last_profile(step: Step, from: u32) -> Piece
+// What a step that has come to the instant `from` lays behind the last row. `lone` is a row of its
+// task alone.
+pub(crate) fn last_profile(step: Step, lone: Row, from: u32) -> Piece
+    requires { ⌜ lone ≡ alone (step .part) ⌝ }
     ensures { λ r. ⌜ Cuts r 4 (madeLast step from) ⌝ }
 {
-    let part = step.part;
-    let profile = checks::new_profile(part);
     if step.taking {
-        return Piece::none(profile, 4);
+        return Piece::none(lone, 4);
     }
-    Piece::cut(profile, from, part.until, 4)
+    let part = step.part;
+    Piece::cut(lone, from, part.until, 4)
 }
 
 // The instant to which a part has come behind a row.

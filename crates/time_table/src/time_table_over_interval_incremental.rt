@@ -9,8 +9,10 @@ use crate::Edited;
 use crate::Part;
 use crate::Row;
 use crate::Table;
+use crate::checks;
 use crate::mandatory_part_adjustments::get_mandatory_part_adjustments;
 use crate::part_by_part;
+use crate::part_by_part::Step;
 use crate::pieces::Piece;
 
 // The table of a task's old mandatory part turned into that of its new one; or, where some one part
@@ -30,14 +32,28 @@ pub fn update_time_table(table: Table, old: Part, new: Part) -> Edited
     ensures { λ r. ⌜ r ≡ updated old new table ⌝ }
 {
     let adjustments = get_mandatory_part_adjustments(old, new);
-    let steps = adjustments.removed.count + adjustments.added.count;
+    let removed = adjustments.removed;
+    let added = adjustments.added;
+    let outs = removed.parts;
+    let ins = added.parts;
+    let steps = removed.count + added.count;
     let mut rows = table.rows;
     let mut count = table.count;
     let empty = Row::empty();
     let mut over = false;
     let mut k = 0;
     'parts: while k < steps {
-        let step = part_by_part::step_at(adjustments, k);
+        // the steps by number: first the parts that are removed, then those that are added
+        let taken = adjustments.removed.count;
+        let taking = k < taken;
+        let mut part = outs[0];
+        if taking {
+            part = outs[k];
+        } else {
+            part = ins[k - taken];
+        }
+        let step = Step { part, taking };
+        let lone = checks::new_profile(part);
         let mut from = step.part.from;
         // the row whose pieces are written, the instant at which the step came to it, and its next piece
         let mut row = empty;
@@ -61,7 +77,7 @@ pub fn update_time_table(table: Table, old: Part, new: Part) -> Edited
             if j < Piece::ALL {
                 // a piece of the row before may be still to be written
                 let part = part_by_part::part_at(step, came);
-                let piece = part_by_part::next_piece(step.taking, part, row, j);
+                let piece = part_by_part::next_piece(step.taking, part, lone, row, j);
                 j = piece.next;
                 if piece.some {
                     if i < count {
@@ -122,7 +138,7 @@ pub fn update_time_table(table: Table, old: Part, new: Part) -> Edited
             }
         }
         // what of the part lies behind the last row
-        let last = part_by_part::last_profile(step, from);
+        let last = part_by_part::last_profile(step, lone, from);
         if last.some {
             if n == Table::ROWS {
                 over = true;

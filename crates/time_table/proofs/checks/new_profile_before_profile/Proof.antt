@@ -4,9 +4,6 @@ use borrow.Author.Needs.{needs}
 use Rattle.time_table.proofs.checks.new_profile_before_profile.Statement.{statement}
 use Rattle.time_table.proofs.checks.new_profile_before_profile.Tie as tie
 
-new-profile-requires : tie.Need-new-profile-requires
-new-profile-requires c κs = search needs
-
 least-requires : tie.Need-least-requires
 least-requires c κs = search needs
 
@@ -14,8 +11,8 @@ cut-requires : tie.Need-cut-requires
 cut-requires c κs = search needs
 
 returns : tie.Need-returns
-returns c = rw (← (c .before .least .ensures), ← (c .before .before .new-profile .ensures)) (c .cut .ensures)
+returns c = rw (← (c .before .least .ensures), ← (c .before .before .pre)) (c .cut .ensures)
 
 pub new-profile-before-profile-spec : {M : Type 1} → statement M
 new-profile-before-profile-spec =
-    tie.close (tie.spec new-profile-requires least-requires cut-requires returns)
+    tie.close (tie.spec least-requires cut-requires returns)

@@ -4,9 +4,6 @@ use borrow.Author.Needs.{needs}
 use Rattle.time_table.proofs.part_by_part.last_profile.Statement.{statement}
 use Rattle.time_table.proofs.part_by_part.last_profile.Tie as tie
 
-new-profile-requires : tie.Need-new-profile-requires
-new-profile-requires c κs = search needs
-
 none-requires : tie.Need-none-requires
 none-requires c κs = search needs
 
@@ -17,8 +14,8 @@ cut-requires : tie.Need-cut-requires
 cut-requires c κs = search needs
 
 returns-2 : tie.Need-returns-2
-returns-2 c = rw (c .before .if1 .left, ← (c .before .before .new-profile .ensures)) (c .cut .ensures)
+returns-2 c = rw (c .before .before .if1 .left, ← (c .before .before .before .pre)) (c .cut .ensures)
 
 pub last-profile-spec : {M : Type 1} → statement M
 last-profile-spec =
-    tie.close (tie.spec new-profile-requires none-requires returns cut-requires returns-2)
+    tie.close (tie.spec none-requires returns cut-requires returns-2)

@@ -10,11 +10,14 @@ use Prim.Native.Nat.{ℕ, _+_, _-_, _*_, _/_, _≤_, _<_}
 use native.Mathlib.Omega.{arith}
 use borrow.Author.Needs.{needs}
 use borrow.Author.Tests.{ltb-true, ltb-false, not-false}
+use lib.Dec.{ltb}
 use lib.ListN.{length, set}
 use Rattle.time_table.specs.declared.Row.{Row}
+use Rattle.time_table.specs.declared.part_by_part.Step.{Step}
 use Rattle.time_table.specs.Rows.{noRow, rowsOf, rowAt}
-use Rattle.time_table.specs.Stepping.{partAt, untouched, NextPiece}
+use Rattle.time_table.specs.Stepping.{stepAt, partAt, untouched, NextPiece}
 use Rattle.time_table.proofs.Editing.{stepped}
+use Rattle.time_table.proofs.Piecewise.{alone-at}
 use Rattle.time_table.proofs.Rising.{Raised, raised-start, raised-more}
 use Rattle.time_table.proofs.Stepped.{later-end}
 use Rattle.time_table.proofs.Laying.{laid-size, last-none, last-some, last-over, Moves, moves-on}
@@ -25,55 +28,56 @@ use Rattle.time_table.proofs.time_table_over_interval_incremental.updat
 use Rattle.time_table.proofs.time_table_over_interval_incremental.update_time_table.Tie as tie
 
 abbrev Inv-loop : tie.InvT-loop
-Inv-loop table adjustments steps rows count empty over k step from row came j low₀ left₀ low left =
+Inv-loop table adjustments outs ins steps rows count empty over k taken taking step lone from row came j low₀ left₀ low left =
     Turn adjustments table k (tabled rows count) step × (low + left ≤ count) × ((x : ℕ) → x < low → rowAt rows x .end < step .part .from)
     × ((x : ℕ) → low + left ≤ x → x < count → step .part .from ≤ rowAt rows x .end)
 
 abbrev μ-loop : tie.MeasureT-loop
-μ-loop table adjustments steps rows count empty over k step from row came j low₀ left₀ low left = left
+μ-loop table adjustments outs ins steps rows count empty over k taken taking step lone from row came j low₀ left₀ low left = left
 
 abbrev Inv-loop2 : tie.InvT-loop2
-Inv-loop2 table adjustments steps rows₀ count₀ empty over₀ k step from₀ row₀ came₀ j₀ low high i₀ n₀ held₀ rows count over from row came j i n held =
+Inv-loop2 table adjustments outs ins steps rows₀ count₀ empty over₀ k taken taking step lone from₀ row₀ came₀ j₀ low left i₀ n₀ held₀ rows count over from row came j i n held =
     Turn adjustments table k (tabled rows₀ count₀) step
     × Walked step (stepped step (step .part .from) (rowsOf (tabled rows₀ count₀))) held rows n from count i row came j × (over ≡ false)
 
 abbrev μ-loop2 : tie.MeasureT-loop2
-μ-loop2 table adjustments steps rows₀ count₀ empty over₀ k step from₀ row₀ came₀ j₀ low high i₀ n₀ held₀ rows count over from row came j i n held = 5 * (count - i) + (4 - j)
+μ-loop2 table adjustments outs ins steps rows₀ count₀ empty over₀ k taken taking step lone from₀ row₀ came₀ j₀ low left i₀ n₀ held₀ rows count over from row came j i n held = 5 * (count - i) + (4 - j)
 
 abbrev Inv-loop3 : tie.InvT-loop3
-Inv-loop3 table adjustments steps rows₀ count₀ empty over k step from row came j low high i n held piece top₀ rows count top =
+Inv-loop3 table adjustments outs ins steps rows₀ count₀ empty over k taken taking step lone from row came j low left i n held piece top₀ rows count top =
     Raised rows₀ count₀ rows count top × (i ≤ count) × (length rows₀ ≡ 128)
 
 abbrev μ-loop3 : tie.MeasureT-loop3
-μ-loop3 table adjustments steps rows₀ count₀ empty over k step from row came j low high i n held piece top₀ rows count top = count - i
+μ-loop3 table adjustments outs ins steps rows₀ count₀ empty over k taken taking step lone from row came j low left i n held piece top₀ rows count top = count - i
 
 abbrev Inv-loop4 : tie.InvT-loop4
-Inv-loop4 table adjustments steps rows₀ count empty over k step from row came j low high i₀ n₀ held rows i n =
+Inv-loop4 table adjustments outs ins steps rows₀ count empty over k taken taking step lone from row came j low left i₀ n₀ held rows i n =
     (whole : List Row) → Moves step whole rows₀ n₀ from count i₀ row came j → Moves step whole rows n from count i row came j
 
 abbrev μ-loop4 : tie.MeasureT-loop4
-μ-loop4 table adjustments steps rows₀ count empty over k step from row came j low high i₀ n₀ held rows i n = count - i
+μ-loop4 table adjustments outs ins steps rows₀ count empty over k taken taking step lone from row came j low left i₀ n₀ held rows i n = count - i
 
 abbrev Inv-loop5 : tie.InvT-loop5
-Inv-loop5 table adjustments steps rows₀ count empty over k from came j low high i n at₀ rows at = (count ≤ 128) × Closing adjustments table k count rows n at
+Inv-loop5 table adjustments outs ins steps rows₀ count empty over k taken taking from came j low left i n at₀ rows at = (count ≤ 128) × Closing adjustments table k count rows n at
 
 abbrev μ-loop5 : tie.MeasureT-loop5
-μ-loop5 table adjustments steps rows₀ count empty over k from came j low high i n at₀ rows at = count - at
+μ-loop5 table adjustments outs ins steps rows₀ count empty over k taken taking from came j low left i n at₀ rows at = count - at
 
 abbrev Inv-parts : tie.InvT-parts
-Inv-parts table adjustments steps rows₀ count₀ empty over₀ k₀ rows count over k =
+Inv-parts table adjustments outs ins steps rows₀ count₀ empty over₀ k₀ rows count over k =
     (k ≤ steps) × (steps ≡ adjustments .removed .count + adjustments .added .count) × Progress adjustments table k (tabled rows count) × (over ≡ false)
 
 abbrev μ-parts : tie.MeasureT-parts
-μ-parts table adjustments steps rows₀ count₀ empty over₀ k₀ rows count over k = steps - k
+μ-parts table adjustments outs ins steps rows₀ count₀ empty over₀ k₀ rows count over k = steps - k
 
 get-mandatory-part-adjustments-requires : tie.Need-get-mandatory-part-adjustments-requires Inv-loop μ-loop Inv-loop3 μ-loop3 Inv-loop4 μ-loop4 Inv-loop2 μ-loop2 Inv-loop5 μ-loop5 Inv-parts μ-parts
 get-mandatory-part-adjustments-requires c κs = search needs
 
 add-steps : tie.Need-add-steps Inv-loop μ-loop Inv-loop3 μ-loop3 Inv-loop4 μ-loop4 Inv-loop2 μ-loop2 Inv-loop5 μ-loop5 Inv-parts μ-parts
 add-steps c =
-    let a = c .before .before in
-    let u = started (a .args .old) (a .args .new) (a .args .table) (c .before .get-mandatory-part-adjustments .result) (c .before .get-mandatory-part-adjustments .ensures) (a .pre) in
+    let a = c .before .before .before .before .before .before .before in
+    let g = c .before .before .before .before .before .before .get-mandatory-part-adjustments in
+    let u = started (a .args .old) (a .args .new) (a .args .table) (g .result) (g .ensures) (a .pre) in
     omega (arith, u .removed .fits, u .added .fits)
 
 empty-requires : tie.Need-empty-requires Inv-loop μ-loop Inv-loop3 μ-loop3 Inv-loop4 μ-loop4 Inv-loop2 μ-loop2 Inv-loop5 μ-loop5 Inv-parts μ-parts
@@ -81,18 +85,47 @@ empty-requires c κs = search needs
 
 parts-holds : tie.Need-parts-holds Inv-loop μ-loop Inv-loop3 μ-loop3 Inv-loop4 μ-loop4 Inv-loop2 μ-loop2 Inv-loop5 μ-loop5 Inv-parts μ-parts
 parts-holds c =
-    let a = c .before .before .before .before in
-    (omega arith, refl, started (a .args .old) (a .args .new) (a .args .table) (c .before .before .before .get-mandatory-part-adjustments .result) (c .before .before .before .get-mandatory-part-adjustments .ensures) (a .pre), refl)
+    let a = c .before .before .before .before .before .before .before .before .before in
+    let g = c .before .before .before .before .before .before .before .before .get-mandatory-part-adjustments in
+    (omega arith, refl, started (a .args .old) (a .args .new) (a .args .table) (g .result) (g .ensures) (a .pre), refl)
 
-step-at-requires : tie.Need-step-at-requires Inv-loop μ-loop Inv-loop3 μ-loop3 Inv-loop4 μ-loop4 Inv-loop2 μ-loop2 Inv-loop5 μ-loop5 Inv-parts μ-parts
-step-at-requires c κs =
-    let o = c .before .parts in
-    ((o .inv .2 .removed .fits, o .inv .2 .added .fits), omega (arith, o .inv .1))
+array-copy-out-part : tie.Need-array-copy-out-part Inv-loop μ-loop Inv-loop3 μ-loop3 Inv-loop4 μ-loop4 Inv-loop2 μ-loop2 Inv-loop5 μ-loop5 Inv-parts μ-parts
+array-copy-out-part c = omega arith
+
+mul-part : tie.Need-mul-part Inv-loop μ-loop Inv-loop3 μ-loop3 Inv-loop4 μ-loop4 Inv-loop2 μ-loop2 Inv-loop5 μ-loop5 Inv-parts μ-parts
+mul-part c = omega (arith, ltb-true (c .before .before .before .parts .k) (c .before .before .before .before .before .before .before .before .before .before .before .before .get-mandatory-part-adjustments .result .removed .count) (c .if1 .taken), c .before .before .before .parts .inv .2 .removed .fits)
+
+array-copy-out-part-2 : tie.Need-array-copy-out-part-2 Inv-loop μ-loop Inv-loop3 μ-loop3 Inv-loop4 μ-loop4 Inv-loop2 μ-loop2 Inv-loop5 μ-loop5 Inv-parts μ-parts
+array-copy-out-part-2 c = omega (arith, ltb-true (c .before .before .before .parts .k) (c .before .before .before .before .before .before .before .before .before .before .before .before .get-mandatory-part-adjustments .result .removed .count) (c .if1 .taken), c .before .before .before .parts .inv .2 .removed .fits)
+
+sub-part : tie.Need-sub-part Inv-loop μ-loop Inv-loop3 μ-loop3 Inv-loop4 μ-loop4 Inv-loop2 μ-loop2 Inv-loop5 μ-loop5 Inv-parts μ-parts
+sub-part c = omega (arith, ltb-false (c .before .before .before .parts .k) (c .before .before .before .before .before .before .before .before .before .before .before .before .get-mandatory-part-adjustments .result .removed .count) (c .if1 .left), c .before .before .parts-test .taken, c .before .before .before .parts .inv .1, c .before .before .before .parts .inv .2 .added .fits)
+
+mul-part-2 : tie.Need-mul-part-2 Inv-loop μ-loop Inv-loop3 μ-loop3 Inv-loop4 μ-loop4 Inv-loop2 μ-loop2 Inv-loop5 μ-loop5 Inv-parts μ-parts
+mul-part-2 c = omega (arith, ltb-false (c .before .before .before .parts .k) (c .before .before .before .before .before .before .before .before .before .before .before .before .get-mandatory-part-adjustments .result .removed .count) (c .if1 .left), c .before .before .parts-test .taken, c .before .before .before .parts .inv .1, c .before .before .before .parts .inv .2 .added .fits)
+
+array-copy-out-part-3 : tie.Need-array-copy-out-part-3 Inv-loop μ-loop Inv-loop3 μ-loop3 Inv-loop4 μ-loop4 Inv-loop2 μ-loop2 Inv-loop5 μ-loop5 Inv-parts μ-parts
+array-copy-out-part-3 c = omega (arith, ltb-false (c .before .before .before .parts .k) (c .before .before .before .before .before .before .before .before .before .before .before .before .get-mandatory-part-adjustments .result .removed .count) (c .if1 .left), c .before .before .parts-test .taken, c .before .before .before .parts .inv .1, c .before .before .before .parts .inv .2 .added .fits)
+
+new-profile-requires : tie.Need-new-profile-requires Inv-loop μ-loop Inv-loop3 μ-loop3 Inv-loop4 μ-loop4 Inv-loop2 μ-loop2 Inv-loop5 μ-loop5 Inv-parts μ-parts
+new-profile-requires c κs = search needs
+
+-- the step at hand is the one by its number
+abbrev stepOf : tie.After-new-profile Inv-loop μ-loop Inv-loop3 μ-loop3 Inv-loop4 μ-loop4 Inv-loop2 μ-loop2 Inv-loop5 μ-loop5 Inv-parts μ-parts → Step
+stepOf c = record { part = c .before .if1 .part; taking = ltb (c .before .before .before .before .parts .k) (c .before .before .before .before .before .before .before .before .before .before .before .before .before .get-mandatory-part-adjustments .result .removed .count) }
+
+step-is : (c : tie.After-new-profile Inv-loop μ-loop Inv-loop3 μ-loop3 Inv-loop4 μ-loop4 Inv-loop2 μ-loop2 Inv-loop5 μ-loop5 Inv-parts μ-parts) → stepOf c ≡ stepAt (c .before .before .before .before .before .before .before .before .before .before .before .before .before .get-mandatory-part-adjustments .result) (c .before .before .before .before .parts .k)
+step-is c =
+    let k = c .before .before .before .before .parts .k in
+    ⊎-elim
+    (λ w. rw (w .2, w .0 .taken) refl)
+    (λ w. rw (w .2, w .0 .left) refl)
+    (c .before .if1 .came)
 
 loop-holds : tie.Need-loop-holds Inv-loop μ-loop Inv-loop3 μ-loop3 Inv-loop4 μ-loop4 Inv-loop2 μ-loop2 Inv-loop5 μ-loop5 Inv-parts μ-parts
 loop-holds c =
-    let o = c .before .before .parts in
-    let tn = turn (c .before .before .before .before .before .before .get-mandatory-part-adjustments .result) (c .before .before .before .before .before .before .before .args .table) (o .inv .2) (omega (arith, o .inv .1)) (c .step-at .result) (c .step-at .ensures) in
+    let o = c .before .before .before .before .parts in
+    let tn = turn (c .before .before .before .before .before .before .before .before .before .before .before .before .before .get-mandatory-part-adjustments .result) (c .before .before .before .before .before .before .before .before .before .before .before .before .before .before .args .table) (o .inv .2) (omega (arith, o .inv .1, c .before .before .before .parts-test .taken)) (stepOf c) (step-is c) in
     (tn, omega arith, λ x lt. absurd (omega arith), λ x le lt. absurd (omega arith))
 
 sub-half : tie.Need-sub-half Inv-loop μ-loop Inv-loop3 μ-loop3 Inv-loop4 μ-loop4 Inv-loop2 μ-loop2 Inv-loop5 μ-loop5 Inv-parts μ-parts
@@ -123,7 +156,7 @@ loop-again c =
     let at = l .low + (l .left - l .left / 2) - 1 in (
       l .inv .0,
       omega (arith, l .inv .1),
-      λ x lt. omega (arith, c .if1 .taken, later-end (l .inv .0 .can) x at (omega (arith, some)) (omega (arith, some, l .inv .1))),
+      λ x lt. omega (arith, c .if2 .taken, later-end (l .inv .0 .can) x at (omega (arith, some)) (omega (arith, some, l .inv .1))),
       λ x le lt. l .inv .3 x (omega arith) lt,
     )
 
@@ -135,46 +168,47 @@ loop-again-2 c =
     let l = c .before .before .before .before .before .loop in
     let some = c .before .before .before .before .loop-test .taken in
     let at = l .low + (l .left - l .left / 2) - 1 in
-    (l .inv .0, omega (arith, l .inv .1), l .inv .2, λ x le lt. omega (arith, c .if1 .left, later-end (l .inv .0 .can) at x (omega (arith, some)) lt))
+    (l .inv .0, omega (arith, l .inv .1), l .inv .2, λ x le lt. omega (arith, c .if2 .left, later-end (l .inv .0 .can) at x (omega (arith, some)) lt))
 
 loop2-holds : tie.Need-loop2-holds Inv-loop μ-loop Inv-loop3 μ-loop3 Inv-loop4 μ-loop4 Inv-loop2 μ-loop2 Inv-loop5 μ-loop5 Inv-parts μ-parts
 loop2-holds c =
     let l = c .before .loop in (
       l .inv .0,
       walked-from _ _ (l .inv .0 .can) (l .low) _ _ _ (omega (arith, l .inv .1)) (l .inv .2) (λ x le lt. l .inv .3 x (omega (arith, c .loop-test .left)) lt),
-      c .before .before .before .before .parts .inv .3,
+      c .before .before .before .before .before .before .parts .inv .3,
     )
 
 part-at-requires : tie.Need-part-at-requires Inv-loop μ-loop Inv-loop3 μ-loop3 Inv-loop4 μ-loop4 Inv-loop2 μ-loop2 Inv-loop5 μ-loop5 Inv-parts μ-parts
 part-at-requires c κs = search needs
 
 next-piece-requires : tie.Need-next-piece-requires Inv-loop μ-loop Inv-loop3 μ-loop3 Inv-loop4 μ-loop4 Inv-loop2 μ-loop2 Inv-loop5 μ-loop5 Inv-parts μ-parts
-next-piece-requires c κs = (rw (c .part-at .ensures) (c .before .before .before .loop2 .inv .1 .laid .can (c .before .if4 .taken)), c .before .if4 .taken)
+next-piece-requires c κs =
+    (rw (c .part-at .ensures) (c .before .before .before .loop2 .inv .1 .laid .can (c .before .if5 .taken)), c .before .if5 .taken, rw (c .part-at .ensures) (c .before .before .before .before .before .before .new-profile .ensures ∙ sym (alone-at (stepOf (c .before .before .before .before .before .before)) _)))
 
 -- the next piece is one of the row at hand
-next-is : (c : tie.After-next-piece Inv-loop μ-loop Inv-loop3 μ-loop3 Inv-loop4 μ-loop4 Inv-loop2 μ-loop2 Inv-loop5 μ-loop5 Inv-parts μ-parts) → NextPiece (c .before .before .before .before .before .before .before .step-at .result .taking) (partAt (c .before .before .before .before .before .before .before .step-at .result) (c .before .before .before .before .loop2 .came)) (c .before .before .before .before .loop2 .row) (c .before .before .before .before .loop2 .j) (c .next-piece .result)
+next-is : (c : tie.After-next-piece Inv-loop μ-loop Inv-loop3 μ-loop3 Inv-loop4 μ-loop4 Inv-loop2 μ-loop2 Inv-loop5 μ-loop5 Inv-parts μ-parts) → NextPiece (stepOf (c .before .before .before .before .before .before .before) .taking) (partAt (stepOf (c .before .before .before .before .before .before .before)) (c .before .before .before .before .loop2 .came)) (c .before .before .before .before .loop2 .row) (c .before .before .before .before .loop2 .j) (c .next-piece .result)
 next-is c =
     rw (c .before .part-at .ensures) at (c .next-piece .ensures)
 
 -- over a second row, or without a place, it is over
-two-rows : (c : tie.Then7 Inv-loop μ-loop Inv-loop3 μ-loop3 Inv-loop4 μ-loop4 Inv-loop2 μ-loop2 Inv-loop5 μ-loop5 Inv-parts μ-parts) → overAll (c .before .before .before .before .before .before .before .before .before .before .before .before .before .before .before .before .get-mandatory-part-adjustments .result) (c .before .before .before .before .before .before .before .before .before .before .before .before .before .before .before .before .before .args .table) ≡ true
+two-rows : (c : tie.Then8 Inv-loop μ-loop Inv-loop3 μ-loop3 Inv-loop4 μ-loop4 Inv-loop2 μ-loop2 Inv-loop5 μ-loop5 Inv-parts μ-parts) → overAll (c .before .before .before .before .before .before .before .before .before .before .before .before .before .before .before .before .before .before .before .before .before .before .before .get-mandatory-part-adjustments .result) (c .before .before .before .before .before .before .before .before .before .before .before .before .before .before .before .before .before .before .before .before .before .before .before .before .args .table) ≡ true
 two-rows c =
     let l = c .before .before .before .before .before .before .before .loop2 in
-    l .inv .0 .over (two-ahead (l .inv .1) _ (next-is (c .before .before .before)) (c .before .before .before .before .before .if4 .taken) (c .before .before .if5 .taken) (omega (arith, c .if7 .taken)) (c .before .if6 .taken))
+    l .inv .0 .over (two-ahead (l .inv .1) _ (next-is (c .before .before .before)) (c .before .before .before .before .before .if5 .taken) (c .before .before .if6 .taken) (omega (arith, c .if8 .taken)) (c .before .if7 .taken))
 
-piece-too-many : (c : tie.Then10 Inv-loop μ-loop Inv-loop3 μ-loop3 Inv-loop4 μ-loop4 Inv-loop2 μ-loop2 Inv-loop5 μ-loop5 Inv-parts μ-parts) → overAll (c .before .before .before .before .before .before .before .before .before .before .before .before .before .before .before .before .get-mandatory-part-adjustments .result) (c .before .before .before .before .before .before .before .before .before .before .before .before .before .before .before .before .before .args .table) ≡ true
+piece-too-many : (c : tie.Then11 Inv-loop μ-loop Inv-loop3 μ-loop3 Inv-loop4 μ-loop4 Inv-loop2 μ-loop2 Inv-loop5 μ-loop5 Inv-parts μ-parts) → overAll (c .before .before .before .before .before .before .before .before .before .before .before .before .before .before .before .before .before .before .before .before .before .before .before .get-mandatory-part-adjustments .result) (c .before .before .before .before .before .before .before .before .before .before .before .before .before .before .before .before .before .before .before .before .before .before .before .before .args .table) ≡ true
 piece-too-many c =
     let l = c .before .before .before .before .before .before .before .loop2 in
-    l .inv .0 .over (no-place (l .inv .1) _ (next-is (c .before .before .before)) (c .before .before .before .before .before .if4 .taken) (c .before .before .if5 .taken) (omega arith))
+    l .inv .0 .over (no-place (l .inv .1) _ (next-is (c .before .before .before)) (c .before .before .before .before .before .if5 .taken) (c .before .before .if6 .taken) (omega arith))
 
 mul-held : tie.Need-mul-held Inv-loop μ-loop Inv-loop3 μ-loop3 Inv-loop4 μ-loop4 Inv-loop2 μ-loop2 Inv-loop5 μ-loop5 Inv-parts μ-parts
-mul-held c = omega (arith, c .before .before .if6 .taken, c .before .before .before .before .before .before .before .before .loop2 .inv .1 .laid .unread .clean .fits)
+mul-held c = omega (arith, c .before .before .if7 .taken, c .before .before .before .before .before .before .before .before .loop2 .inv .1 .laid .unread .clean .fits)
 
 array-copy-out-held : tie.Need-array-copy-out-held Inv-loop μ-loop Inv-loop3 μ-loop3 Inv-loop4 μ-loop4 Inv-loop2 μ-loop2 Inv-loop5 μ-loop5 Inv-parts μ-parts
-array-copy-out-held c = omega (arith, c .before .before .if6 .taken, c .before .before .before .before .before .before .before .before .loop2 .inv .1 .laid .unread .clean .fits)
+array-copy-out-held c = omega (arith, c .before .before .if7 .taken, c .before .before .before .before .before .before .before .before .loop2 .inv .1 .laid .unread .clean .fits)
 
 loop3-holds : tie.Need-loop3-holds Inv-loop μ-loop Inv-loop3 μ-loop3 Inv-loop4 μ-loop4 Inv-loop2 μ-loop2 Inv-loop5 μ-loop5 Inv-parts μ-parts
-loop3-holds c = (raised-start (laid-size (c .before .before .before .before .before .before .before .before .before .before .loop2 .inv .1 .laid)) (c .if9 .taken), omega (arith, c .before .before .before .before .if6 .taken), laid-size (c .before .before .before .before .before .before .before .before .before .before .loop2 .inv .1 .laid))
+loop3-holds c = (raised-start (laid-size (c .before .before .before .before .before .before .before .before .before .before .loop2 .inv .1 .laid)) (c .if10 .taken), omega (arith, c .before .before .before .before .if7 .taken), laid-size (c .before .before .before .before .before .before .before .before .before .before .loop2 .inv .1 .laid))
 
 sub-count : tie.Need-sub-count Inv-loop μ-loop Inv-loop3 μ-loop3 Inv-loop4 μ-loop4 Inv-loop2 μ-loop2 Inv-loop5 μ-loop5 Inv-parts μ-parts
 sub-count c = omega (arith, c .loop3-test .taken)
@@ -203,13 +237,13 @@ loop3-again c =
     (raised-more (l .inv .2) noRow (l .inv .0) (omega (arith, c .before .loop3-test .taken)), omega (arith, c .before .loop3-test .taken), l .inv .2)
 
 -- the piece has a place: that of a row that is read; that of one that is in hand, in a full table; or one before the rows that have gone to the end
-placed : (c : tie.Joined6 Inv-loop μ-loop Inv-loop3 μ-loop3 Inv-loop4 μ-loop4 Inv-loop2 μ-loop2 Inv-loop5 μ-loop5 Inv-parts μ-parts) → Walked (c .before .before .before .before .before .before .before .before .before .step-at .result) (stepped (c .before .before .before .before .before .before .before .before .before .step-at .result) (c .before .before .before .before .before .before .before .before .before .step-at .result .part .from) (rowsOf (tabled (c .before .before .before .before .before .before .before .before .before .before .before .parts .rows) (c .before .before .before .before .before .before .before .before .before .before .before .parts .count)))) (c .if6 .held) (set (c .if6 .rows) (c .before .before .before .before .before .before .loop2 .n) (c .before .before .next-piece .result .row)) (c .before .before .before .before .before .before .loop2 .n + 1) (c .before .before .before .before .before .before .loop2 .from) (c .if6 .count) (c .if6 .i) (c .before .before .before .before .before .before .loop2 .row) (c .before .before .before .before .before .before .loop2 .came) (c .before .before .next-piece .result .next)
-    × (c .before .before .before .before .before .before .loop2 .n < 128) × (c .if6 .count - c .if6 .i ≡ c .before .before .before .before .before .before .loop2 .count - c .before .before .before .before .before .before .loop2 .i)
+placed : (c : tie.Joined7 Inv-loop μ-loop Inv-loop3 μ-loop3 Inv-loop4 μ-loop4 Inv-loop2 μ-loop2 Inv-loop5 μ-loop5 Inv-parts μ-parts) → Walked (stepOf (c .before .before .before .before .before .before .before .before .before)) (stepped (stepOf (c .before .before .before .before .before .before .before .before .before)) (stepOf (c .before .before .before .before .before .before .before .before .before) .part .from) (rowsOf (tabled (c .before .before .before .before .before .before .before .before .before .before .before .before .before .parts .rows) (c .before .before .before .before .before .before .before .before .before .before .before .before .before .parts .count)))) (c .if7 .held) (set (c .if7 .rows) (c .before .before .before .before .before .before .loop2 .n) (c .before .before .next-piece .result .row)) (c .before .before .before .before .before .before .loop2 .n + 1) (c .before .before .before .before .before .before .loop2 .from) (c .if7 .count) (c .if7 .i) (c .before .before .before .before .before .before .loop2 .row) (c .before .before .before .before .before .before .loop2 .came) (c .before .before .next-piece .result .next)
+    × (c .before .before .before .before .before .before .loop2 .n < 128) × (c .if7 .count - c .if7 .i ≡ c .before .before .before .before .before .before .loop2 .count - c .before .before .before .before .before .before .loop2 .i)
 placed c =
     let l = c .before .before .before .before .before .before .loop2 in
     let next = next-is (c .before .before) in
-    let more = c .before .before .before .before .if4 .taken in
-    let some = c .before .if5 .taken in
+    let more = c .before .before .before .before .if5 .taken in
+    let some = c .before .if6 .taken in
     let d = l .inv .1 .laid in
     ⊎-elim
     (λ w.
@@ -227,7 +261,7 @@ placed c =
     (λ w.
     let room : l .n < 128 = omega (arith, d .front .fits, w .1 .left) in
     rw (w .2, w .3, w .4, w .5) (walked-piece (l .inv .1) _ next more some room (λ lt. absurd (omega (arith, w .0 .left))), room, refl))))
-    (c .if6 .came)
+    (c .if7 .came)
 
 mul-rows-2 : tie.Need-mul-rows-2 Inv-loop μ-loop Inv-loop3 μ-loop3 Inv-loop4 μ-loop4 Inv-loop2 μ-loop2 Inv-loop5 μ-loop5 Inv-parts μ-parts
 mul-rows-2 c = omega (arith, placed (c .before) .1)
@@ -241,23 +275,23 @@ add-n c = omega (arith, placed (c .before) .1)
 loop2-less : tie.Need-loop2-less Inv-loop μ-loop Inv-loop3 μ-loop3 Inv-loop4 μ-loop4 Inv-loop2 μ-loop2 Inv-loop5 μ-loop5 Inv-parts μ-parts
 loop2-less c =
     let next = next-is (c .before .before .before) in
-    omega (arith, placed (c .before) .2, next .on, next .upto, c .before .before .before .before .before .if4 .taken)
+    omega (arith, placed (c .before) .2, next .on, next .upto, c .before .before .before .before .before .if5 .taken)
 
 loop2-again : tie.Need-loop2-again Inv-loop μ-loop Inv-loop3 μ-loop3 Inv-loop4 μ-loop4 Inv-loop2 μ-loop2 Inv-loop5 μ-loop5 Inv-parts μ-parts
 loop2-again c = let l = c .before .before .before .before .before .before .before .loop2 in (l .inv .0, placed (c .before) .0, l .inv .2)
 
 loop2-less-2 : tie.Need-loop2-less-2 Inv-loop μ-loop Inv-loop3 μ-loop3 Inv-loop4 μ-loop4 Inv-loop2 μ-loop2 Inv-loop5 μ-loop5 Inv-parts μ-parts
-loop2-less-2 c = omega (arith, next-is (c .before) .on, next-is (c .before) .upto, c .before .before .before .if4 .taken)
+loop2-less-2 c = omega (arith, next-is (c .before) .on, next-is (c .before) .upto, c .before .before .before .if5 .taken)
 
 loop2-again-2 : tie.Need-loop2-again-2 Inv-loop μ-loop Inv-loop3 μ-loop3 Inv-loop4 μ-loop4 Inv-loop2 μ-loop2 Inv-loop5 μ-loop5 Inv-parts μ-parts
 loop2-again-2 c =
     let l = c .before .before .before .before .before .loop2 in
-    (l .inv .0, walked-none (l .inv .1) _ (next-is (c .before)) (c .before .before .before .if4 .taken) (c .if5 .left), l .inv .2)
+    (l .inv .0, walked-none (l .inv .1) _ (next-is (c .before)) (c .before .before .before .if5 .taken) (c .if6 .left), l .inv .2)
 
 -- where no piece is left and the rows are not all read, there is a next row
-inside : (c : tie.Else4 Inv-loop μ-loop Inv-loop3 μ-loop3 Inv-loop4 μ-loop4 Inv-loop2 μ-loop2 Inv-loop5 μ-loop5 Inv-parts μ-parts) → c .before .before .loop2 .i < c .before .before .loop2 .count
+inside : (c : tie.Else5 Inv-loop μ-loop Inv-loop3 μ-loop3 Inv-loop4 μ-loop4 Inv-loop2 μ-loop2 Inv-loop5 μ-loop5 Inv-parts μ-parts) → c .before .before .loop2 .i < c .before .before .loop2 .count
 inside c =
-    ⊎-elim (λ h. h .taken) (λ h. absurd (omega (arith, ltb-true (c .before .before .loop2 .j) 4 (h .1 .taken), c .if4 .left))) (c .before .if2 .came)
+    ⊎-elim (λ h. h .taken) (λ h. absurd (omega (arith, ltb-true (c .before .before .loop2 .j) 4 (h .1 .taken), c .if5 .left))) (c .before .if3 .came)
 
 mul-next : tie.Need-mul-next Inv-loop μ-loop Inv-loop3 μ-loop3 Inv-loop4 μ-loop4 Inv-loop2 μ-loop2 Inv-loop5 μ-loop5 Inv-parts μ-parts
 mul-next c = omega (arith, inside c, c .before .before .loop2 .inv .1 .laid .unread .clean .fits)
@@ -266,10 +300,10 @@ array-copy-out-next : tie.Need-array-copy-out-next Inv-loop μ-loop Inv-loop3 μ
 array-copy-out-next c = omega (arith, inside c, c .before .before .loop2 .inv .1 .laid .unread .clean .fits)
 
 -- and it is the first of those that are left
-read : (c : tie.Joined11 Inv-loop μ-loop Inv-loop3 μ-loop3 Inv-loop4 μ-loop4 Inv-loop2 μ-loop2 Inv-loop5 μ-loop5 Inv-parts μ-parts) → c .if11 .next ≡ rowAt (c .before .before .before .before .loop2 .inv .1 .laid .source) (c .before .before .before .before .loop2 .i)
+read : (c : tie.Joined12 Inv-loop μ-loop Inv-loop3 μ-loop3 Inv-loop4 μ-loop4 Inv-loop2 μ-loop2 Inv-loop5 μ-loop5 Inv-parts μ-parts) → c .if12 .next ≡ rowAt (c .before .before .before .before .loop2 .inv .1 .laid .source) (c .before .before .before .before .loop2 .i)
 read c =
     let l = c .before .before .before .before .loop2 in
-    ⊎-elim (λ w. w .1 ∙ l .inv .1 .kept (w .0 .taken) (inside (c .before .before)) .0) (λ w. w .1 ∙ front-behind (l .inv .1 .laid .front) _ (l .i) (w .0 .left)) (c .if11 .came)
+    ⊎-elim (λ w. w .1 ∙ l .inv .1 .kept (w .0 .taken) (inside (c .before .before)) .0) (λ w. w .1 ∙ front-behind (l .inv .1 .laid .front) _ (l .i) (w .0 .left)) (c .if12 .came)
 
 is-untouched-requires : tie.Need-is-untouched-requires Inv-loop μ-loop Inv-loop3 μ-loop3 Inv-loop4 μ-loop4 Inv-loop2 μ-loop2 Inv-loop5 μ-loop5 Inv-parts μ-parts
 is-untouched-requires c κs = search needs
@@ -277,29 +311,29 @@ is-untouched-requires c κs = search needs
 instant-behind-requires : tie.Need-instant-behind-requires Inv-loop μ-loop Inv-loop3 μ-loop3 Inv-loop4 μ-loop4 Inv-loop2 μ-loop2 Inv-loop5 μ-loop5 Inv-parts μ-parts
 instant-behind-requires c κs =
     let l = c .before .before .before .before .before .before .loop2 in
-    rw (read (c .before .before)) (next-lies (l .inv .1) (omega (arith, c .before .before .before .before .if4 .left)) (inside (c .before .before .before .before)))
+    rw (read (c .before .before)) (next-lies (l .inv .1) (omega (arith, c .before .before .before .before .if5 .left)) (inside (c .before .before .before .before)))
 
 add-i : tie.Need-add-i Inv-loop μ-loop Inv-loop3 μ-loop3 Inv-loop4 μ-loop4 Inv-loop2 μ-loop2 Inv-loop5 μ-loop5 Inv-parts μ-parts
 add-i c = omega (arith, inside (c .before .before .before .before .before), c .before .before .before .before .before .before .before .loop2 .inv .1 .laid .unread .clean .fits)
 
 loop2-less-3 : tie.Need-loop2-less-3 Inv-loop μ-loop Inv-loop3 μ-loop3 Inv-loop4 μ-loop4 Inv-loop2 μ-loop2 Inv-loop5 μ-loop5 Inv-parts μ-parts
-loop2-less-3 c = omega (arith, inside (c .before .before .before .before .before), c .before .before .before .before .before .if4 .left)
+loop2-less-3 c = omega (arith, inside (c .before .before .before .before .before), c .before .before .before .before .before .if5 .left)
 
 loop2-again-3 : tie.Need-loop2-again-3 Inv-loop μ-loop Inv-loop3 μ-loop3 Inv-loop4 μ-loop4 Inv-loop2 μ-loop2 Inv-loop5 μ-loop5 Inv-parts μ-parts
 loop2-again-3 c =
     let l = c .before .before .before .before .before .before .before .loop2 in
-    (l .inv .0, rw (c .instant-behind .ensures, read (c .before .before .before)) (walked-cut (l .inv .1) (omega (arith, c .before .before .before .before .before .if4 .left)) (inside (c .before .before .before .before .before))), l .inv .2)
+    (l .inv .0, rw (c .instant-behind .ensures, read (c .before .before .before)) (walked-cut (l .inv .1) (omega (arith, c .before .before .before .before .before .if5 .left)) (inside (c .before .before .before .before .before))), l .inv .2)
 
 -- the part does not touch it
-stays : (c : tie.Else12 Inv-loop μ-loop Inv-loop3 μ-loop3 Inv-loop4 μ-loop4 Inv-loop2 μ-loop2 Inv-loop5 μ-loop5 Inv-parts μ-parts) → untouched (c .before .before .before .before .before .before .before .before .before .step-at .result) (c .before .before .before .before .before .before .loop2 .from) (rowAt (c .before .before .before .before .before .before .loop2 .inv .1 .laid .source) (c .before .before .before .before .before .before .loop2 .i)) ≡ true
+stays : (c : tie.Else13 Inv-loop μ-loop Inv-loop3 μ-loop3 Inv-loop4 μ-loop4 Inv-loop2 μ-loop2 Inv-loop5 μ-loop5 Inv-parts μ-parts) → untouched (stepOf (c .before .before .before .before .before .before .before .before .before)) (c .before .before .before .before .before .before .loop2 .from) (rowAt (c .before .before .before .before .before .before .loop2 .inv .1 .laid .source) (c .before .before .before .before .before .before .loop2 .i)) ≡ true
 stays c =
-    ap (untouched (c .before .before .before .before .before .before .before .before .before .step-at .result) (c .before .before .before .before .before .before .loop2 .from)) (sym (read (c .before .before))) ∙ sym (c .before .is-untouched .ensures) ∙ not-false _ (c .if12 .left)
+    ap (untouched (stepOf (c .before .before .before .before .before .before .before .before .before)) (c .before .before .before .before .before .before .loop2 .from)) (sym (read (c .before .before))) ∙ sym (c .before .is-untouched .ensures) ∙ not-false _ (c .if13 .left)
 
 -- without a place it is over
-row-too-many : (c : tie.Then13 Inv-loop μ-loop Inv-loop3 μ-loop3 Inv-loop4 μ-loop4 Inv-loop2 μ-loop2 Inv-loop5 μ-loop5 Inv-parts μ-parts) → overAll (c .before .before .before .before .before .before .before .before .before .before .before .before .before .before .before .before .get-mandatory-part-adjustments .result) (c .before .before .before .before .before .before .before .before .before .before .before .before .before .before .before .before .before .args .table) ≡ true
+row-too-many : (c : tie.Then14 Inv-loop μ-loop Inv-loop3 μ-loop3 Inv-loop4 μ-loop4 Inv-loop2 μ-loop2 Inv-loop5 μ-loop5 Inv-parts μ-parts) → overAll (c .before .before .before .before .before .before .before .before .before .before .before .before .before .before .before .before .before .before .before .before .before .before .before .get-mandatory-part-adjustments .result) (c .before .before .before .before .before .before .before .before .before .before .before .before .before .before .before .before .before .before .before .before .before .before .before .before .args .table) ≡ true
 row-too-many c =
     let l = c .before .before .before .before .before .before .before .loop2 in
-    l .inv .0 .over (rest-over (l .inv .1) (omega (arith, c .before .before .before .before .before .if4 .left)) (inside (c .before .before .before .before .before)) (stays (c .before)) (c .if13 .taken))
+    l .inv .0 .over (rest-over (l .inv .1) (omega (arith, c .before .before .before .before .before .if5 .left)) (inside (c .before .before .before .before .before)) (stays (c .before)) (c .if14 .taken))
 
 loop2-less-4 : tie.Need-loop2-less-4 Inv-loop μ-loop Inv-loop3 μ-loop3 Inv-loop4 μ-loop4 Inv-loop2 μ-loop2 Inv-loop5 μ-loop5 Inv-parts μ-parts
 loop2-less-4 c = omega (arith, inside (c .before .before .before .before .before .before))
@@ -307,11 +341,11 @@ loop2-less-4 c = omega (arith, inside (c .before .before .before .before .before
 loop2-again-4 : tie.Need-loop2-again-4 Inv-loop μ-loop Inv-loop3 μ-loop3 Inv-loop4 μ-loop4 Inv-loop2 μ-loop2 Inv-loop5 μ-loop5 Inv-parts μ-parts
 loop2-again-4 c =
     let l = c .before .before .before .before .before .before .before .before .loop2 in
-    (l .inv .0, walked-rests (l .inv .1) (omega (arith, c .before .before .before .before .before .before .if4 .left)) (inside (c .before .before .before .before .before .before)) (stays (c .before .before)) (c .if14 .taken), l .inv .2)
+    (l .inv .0, walked-rests (l .inv .1) (omega (arith, c .before .before .before .before .before .before .if5 .left)) (inside (c .before .before .before .before .before .before)) (stays (c .before .before)) (c .if15 .taken), l .inv .2)
 
 -- or it moves down, with all rows behind it
-entered : (c : tie.Else14 Inv-loop μ-loop Inv-loop3 μ-loop3 Inv-loop4 μ-loop4 Inv-loop2 μ-loop2 Inv-loop5 μ-loop5 Inv-parts μ-parts) → Moves (c .before .before .before .before .before .before .before .before .before .before .before .step-at .result) (stepped (c .before .before .before .before .before .before .before .before .before .before .before .step-at .result) (c .before .before .before .before .before .before .before .before .before .before .before .step-at .result .part .from) (rowsOf (tabled (c .before .before .before .before .before .before .before .before .before .before .before .before .before .parts .rows) (c .before .before .before .before .before .before .before .before .before .before .before .before .before .parts .count)))) (c .before .before .before .before .before .before .before .before .loop2 .rows) (c .before .before .before .before .before .before .before .before .loop2 .n) (c .before .before .before .before .before .before .before .before .loop2 .from) (c .before .before .before .before .before .before .before .before .loop2 .count) (c .before .before .before .before .before .before .before .before .loop2 .i) (c .before .before .before .before .before .before .before .before .loop2 .row) (c .before .before .before .before .before .before .before .before .loop2 .came) (c .before .before .before .before .before .before .before .before .loop2 .j)
-entered c = moves-start (c .before .before .before .before .before .before .before .before .loop2 .inv .1) (omega (arith, c .before .before .before .before .before .before .if4 .left)) (inside (c .before .before .before .before .before .before)) (stays (c .before .before)) (omega (arith, c .before .if13 .left))
+entered : (c : tie.Else15 Inv-loop μ-loop Inv-loop3 μ-loop3 Inv-loop4 μ-loop4 Inv-loop2 μ-loop2 Inv-loop5 μ-loop5 Inv-parts μ-parts) → Moves (stepOf (c .before .before .before .before .before .before .before .before .before .before .before)) (stepped (stepOf (c .before .before .before .before .before .before .before .before .before .before .before)) (stepOf (c .before .before .before .before .before .before .before .before .before .before .before) .part .from) (rowsOf (tabled (c .before .before .before .before .before .before .before .before .before .before .before .before .before .before .before .parts .rows) (c .before .before .before .before .before .before .before .before .before .before .before .before .before .before .before .parts .count)))) (c .before .before .before .before .before .before .before .before .loop2 .rows) (c .before .before .before .before .before .before .before .before .loop2 .n) (c .before .before .before .before .before .before .before .before .loop2 .from) (c .before .before .before .before .before .before .before .before .loop2 .count) (c .before .before .before .before .before .before .before .before .loop2 .i) (c .before .before .before .before .before .before .before .before .loop2 .row) (c .before .before .before .before .before .before .before .before .loop2 .came) (c .before .before .before .before .before .before .before .before .loop2 .j)
+entered c = moves-start (c .before .before .before .before .before .before .before .before .loop2 .inv .1) (omega (arith, c .before .before .before .before .before .before .if5 .left)) (inside (c .before .before .before .before .before .before)) (stays (c .before .before)) (omega (arith, c .before .if14 .left))
 
 loop4-holds : tie.Need-loop4-holds Inv-loop μ-loop Inv-loop3 μ-loop3 Inv-loop4 μ-loop4 Inv-loop2 μ-loop2 Inv-loop5 μ-loop5 Inv-parts μ-parts
 loop4-holds c = λ whole m. m
@@ -349,20 +383,20 @@ loop4-again : tie.Need-loop4-again Inv-loop μ-loop Inv-loop3 μ-loop3 Inv-loop4
 loop4-again c = λ whole m. moves-on (c .before .before .loop4 .inv whole m) (c .before .loop4-test .taken)
 
 last-profile-requires : tie.Need-last-profile-requires Inv-loop μ-loop Inv-loop3 μ-loop3 Inv-loop4 μ-loop4 Inv-loop2 μ-loop2 Inv-loop5 μ-loop5 Inv-parts μ-parts
-last-profile-requires c κs = search needs
+last-profile-requires c κs = c .before .before .before .before .before .new-profile .ensures
 
 -- what lies behind the last row is over without a place too
-last-too-many : (c : tie.Then16 Inv-loop μ-loop Inv-loop3 μ-loop3 Inv-loop4 μ-loop4 Inv-loop2 μ-loop2 Inv-loop5 μ-loop5 Inv-parts μ-parts) → overAll (c .before .before .before .before .before .before .before .before .before .before .before .before .before .before .get-mandatory-part-adjustments .result) (c .before .before .before .before .before .before .before .before .before .before .before .before .before .before .before .args .table) ≡ true
+last-too-many : (c : tie.Then17 Inv-loop μ-loop Inv-loop3 μ-loop3 Inv-loop4 μ-loop4 Inv-loop2 μ-loop2 Inv-loop5 μ-loop5 Inv-parts μ-parts) → overAll (c .before .before .before .before .before .before .before .before .before .before .before .before .before .before .before .before .before .before .before .before .before .get-mandatory-part-adjustments .result) (c .before .before .before .before .before .before .before .before .before .before .before .before .before .before .before .before .before .before .before .before .before .before .args .table) ≡ true
 last-too-many c =
     let l = c .before .before .before .before .before .loop2 in
     l .inv .0 .over
-    (last-over (l .inv .1 .laid) (ltb-false _ _ (c .before .before .before .if3 .left)) (omega (arith, c .before .before .before .before .if2 .left)) _ (c .before .before .last-profile .ensures) (c .before .if15 .taken) (omega arith))
+    (last-over (l .inv .1 .laid) (ltb-false _ _ (c .before .before .before .if4 .left)) (omega (arith, c .before .before .before .before .if3 .left)) _ (c .before .before .last-profile .ensures) (c .before .if16 .taken) (omega arith))
 
 mul-rows-4 : tie.Need-mul-rows-4 Inv-loop μ-loop Inv-loop3 μ-loop3 Inv-loop4 μ-loop4 Inv-loop2 μ-loop2 Inv-loop5 μ-loop5 Inv-parts μ-parts
 mul-rows-4 c = omega (arith, c .before .before .before .before .before .before .loop2 .inv .1 .laid .front .fits)
 
 array-set-from-rows-4 : tie.Need-array-set-from-rows-4 Inv-loop μ-loop Inv-loop3 μ-loop3 Inv-loop4 μ-loop4 Inv-loop2 μ-loop2 Inv-loop5 μ-loop5 Inv-parts μ-parts
-array-set-from-rows-4 c = omega (arith, c .before .before .before .before .before .before .loop2 .inv .1 .laid .front .fits, c .before .if16 .left)
+array-set-from-rows-4 c = omega (arith, c .before .before .before .before .before .before .loop2 .inv .1 .laid .front .fits, c .before .if17 .left)
 
 add-n-3 : tie.Need-add-n-3 Inv-loop μ-loop Inv-loop3 μ-loop3 Inv-loop4 μ-loop4 Inv-loop2 μ-loop2 Inv-loop5 μ-loop5 Inv-parts μ-parts
 add-n-3 c = omega (arith, c .before .before .before .before .before .before .loop2 .inv .1 .laid .front .fits)
@@ -371,13 +405,13 @@ loop5-holds : tie.Need-loop5-holds Inv-loop μ-loop Inv-loop3 μ-loop3 Inv-loop4
 loop5-holds c =
     let l = c .before .before .before .before .loop2 in
     let d = l .inv .1 .laid in
-    let none = ltb-false _ _ (c .before .before .if3 .left) in
-    let all : l .count ≤ l .i = omega (arith, c .before .before .before .if2 .left) in
-    let whole : Front 128 (d .source) (c .if15 .rows) (c .if15 .n) (stepped (c .before .before .before .before .before .before .before .step-at .result) (c .before .before .before .before .before .before .before .step-at .result .part .from) (rowsOf (tabled (c .before .before .before .before .before .before .before .before .before .parts .rows) (c .before .before .before .before .before .before .before .before .before .parts .count)))) =
+    let none = ltb-false _ _ (c .before .before .if4 .left) in
+    let all : l .count ≤ l .i = omega (arith, c .before .before .before .if3 .left) in
+    let whole : Front 128 (d .source) (c .if16 .rows) (c .if16 .n) (stepped (stepOf (c .before .before .before .before .before .before .before)) (stepOf (c .before .before .before .before .before .before .before) .part .from) (rowsOf (tabled (c .before .before .before .before .before .before .before .before .before .before .before .parts .rows) (c .before .before .before .before .before .before .before .before .before .before .before .parts .count)))) =
     ⊎-elim
     (λ w. rw (w .3, w .4) (last-some d none all _ (c .before .last-profile .ensures) (w .0 .taken) (omega (arith, d .front .fits, w .1 .left))))
     (λ w. rw (w .1, w .2) (last-none d none all _ (c .before .last-profile .ensures) (w .0 .left)))
-    (c .if15 .came) in
+    (c .if16 .came) in
     (d .unread .clean .fits, record { whole = _; next = l .inv .0 .next; cleared = clear-start (tabled (d .source) (l .count)) (d .unread .clean) whole })
 
 mul-rows-5 : tie.Need-mul-rows-5 Inv-loop μ-loop Inv-loop3 μ-loop3 Inv-loop4 μ-loop4 Inv-loop2 μ-loop2 Inv-loop5 μ-loop5 Inv-parts μ-parts
@@ -395,10 +429,10 @@ loop5-less c = omega arith
 loop5-again : tie.Need-loop5-again Inv-loop μ-loop Inv-loop3 μ-loop3 Inv-loop4 μ-loop4 Inv-loop2 μ-loop2 Inv-loop5 μ-loop5 Inv-parts μ-parts
 loop5-again c =
     let q = c .before .before .loop5 .inv in
-    (q .0, record { whole = q .1 .whole; next = q .1 .next; cleared = rw (c .before .before .before .before .before .before .before .before .before .before .before .before .before .empty .ensures) (clear-more (q .1 .cleared) (omega (arith, q .0))) })
+    (q .0, record { whole = q .1 .whole; next = q .1 .next; cleared = rw (c .before .before .before .before .before .before .before .before .before .before .before .before .before .before .before .empty .ensures) (clear-more (q .1 .cleared) (omega (arith, q .0))) })
 
 add-k : tie.Need-add-k Inv-loop μ-loop Inv-loop3 μ-loop3 Inv-loop4 μ-loop4 Inv-loop2 μ-loop2 Inv-loop5 μ-loop5 Inv-parts μ-parts
-add-k c = omega (arith, c .before .before .before .before .before .before .before .before .before .before .before .parts .inv .1, c .before .before .before .before .before .before .before .before .before .before .before .parts .inv .2 .removed .fits, c .before .before .before .before .before .before .before .before .before .before .before .parts .inv .2 .added .fits)
+add-k c = omega (arith, c .before .before .before .before .before .before .before .before .before .before .before .before .before .parts .inv .1, c .before .before .before .before .before .before .before .before .before .before .before .before .before .parts .inv .2 .removed .fits, c .before .before .before .before .before .before .before .before .before .before .before .before .before .parts .inv .2 .added .fits)
 
 parts-less : tie.Need-parts-less Inv-loop μ-loop Inv-loop3 μ-loop3 Inv-loop4 μ-loop4 Inv-loop2 μ-loop2 Inv-loop5 μ-loop5 Inv-parts μ-parts
 parts-less c = omega arith
@@ -406,34 +440,34 @@ parts-less c = omega arith
 parts-again : tie.Need-parts-again Inv-loop μ-loop Inv-loop3 μ-loop3 Inv-loop4 μ-loop4 Inv-loop2 μ-loop2 Inv-loop5 μ-loop5 Inv-parts μ-parts
 parts-again c =
     let q = c .before .loop5 .inv in
-    (omega arith, c .before .before .before .before .before .before .before .before .before .before .before .parts .inv .1, q .1 .next _ _ (clear-all (q .1 .cleared) (omega arith)), c .before .before .before .before .before .before .loop2 .inv .2)
+    (omega arith, c .before .before .before .before .before .before .before .before .before .before .before .before .before .parts .inv .1, q .1 .next _ _ (clear-all (q .1 .cleared) (omega arith)), c .before .before .before .before .before .before .loop2 .inv .2)
 
 -- the parts are done, or one of them is over
-left : (c : tie.Left-parts Inv-loop μ-loop Inv-loop3 μ-loop3 Inv-loop4 μ-loop4 Inv-loop2 μ-loop2 Inv-loop5 μ-loop5 Inv-parts μ-parts) → ((c .parts-test .over ≡ false) × Ended (c .before .before .before .before .before .get-mandatory-part-adjustments .result) (c .before .before .before .before .before .before .args .table) false (tabled (c .parts-test .rows) (c .parts-test .count)))
-    ⊎ ((c .parts-test .over ≡ true) × (overAll (c .before .before .before .before .before .get-mandatory-part-adjustments .result) (c .before .before .before .before .before .before .args .table) ≡ true))
+left : (c : tie.Left-parts Inv-loop μ-loop Inv-loop3 μ-loop3 Inv-loop4 μ-loop4 Inv-loop2 μ-loop2 Inv-loop5 μ-loop5 Inv-parts μ-parts) → ((c .parts-test .over ≡ false) × Ended (c .before .before .before .before .before .before .before .before .before .before .get-mandatory-part-adjustments .result) (c .before .before .before .before .before .before .before .before .before .before .before .args .table) false (tabled (c .parts-test .rows) (c .parts-test .count)))
+    ⊎ ((c .parts-test .over ≡ true) × (overAll (c .before .before .before .before .before .before .before .before .before .before .get-mandatory-part-adjustments .result) (c .before .before .before .before .before .before .before .before .before .before .before .args .table) ≡ true))
 left c =
     ⊎-elim
     (λ w.
     let o = c .before .parts .inv in
     inl (w .3 ∙ o .3, rw (w .1, w .2) (finished _ _ (o .2) (omega (arith, o .1, w .0 .left)))))
     (⊎-elim
-    (λ w. inr (w .14, two-rows (record { before = record { before = record { before = record { before = record { before = record { before = record { before = record { before = record { before = record { before = record { before = record { before = c .before; parts-test = w .0 }; step-at = w .1 }; loop = w .2 }; loop-test = w .3 }; loop2 = w .4 }; if2 = w .5 }; if4 = w .6 }; part-at = w .7 }; next-piece = w .8 }; if5 = w .9 }; if6 = w .10 }; if7 = w .11 })))
+    (λ w. inr (w .16, two-rows (record { before = record { before = record { before = record { before = record { before = record { before = record { before = record { before = record { before = record { before = record { before = record { before = record { before = record { before = c .before; parts-test = w .0 }; part = w .1 }; if1 = w .2 }; new-profile = w .3 }; loop = w .4 }; loop-test = w .5 }; loop2 = w .6 }; if3 = w .7 }; if5 = w .8 }; part-at = w .9 }; next-piece = w .10 }; if6 = w .11 }; if7 = w .12 }; if8 = w .13 })))
     (⊎-elim
-    (λ w. inr (w .14, piece-too-many (record { before = record { before = record { before = record { before = record { before = record { before = record { before = record { before = record { before = record { before = record { before = record { before = c .before; parts-test = w .0 }; step-at = w .1 }; loop = w .2 }; loop-test = w .3 }; loop2 = w .4 }; if2 = w .5 }; if4 = w .6 }; part-at = w .7 }; next-piece = w .8 }; if5 = w .9 }; if6 = w .10 }; if10 = w .11 })))
+    (λ w. inr (w .16, piece-too-many (record { before = record { before = record { before = record { before = record { before = record { before = record { before = record { before = record { before = record { before = record { before = record { before = record { before = record { before = c .before; parts-test = w .0 }; part = w .1 }; if1 = w .2 }; new-profile = w .3 }; loop = w .4 }; loop-test = w .5 }; loop2 = w .6 }; if3 = w .7 }; if5 = w .8 }; part-at = w .9 }; next-piece = w .10 }; if6 = w .11 }; if7 = w .12 }; if11 = w .13 })))
     (⊎-elim
-    (λ w. inr (w .14, row-too-many (record { before = record { before = record { before = record { before = record { before = record { before = record { before = record { before = record { before = record { before = record { before = record { before = c .before; parts-test = w .0 }; step-at = w .1 }; loop = w .2 }; loop-test = w .3 }; loop2 = w .4 }; if2 = w .5 }; if4 = w .6 }; next = w .7 }; if11 = w .8 }; is-untouched = w .9 }; if12 = w .10 }; if13 = w .11 })))
-    (λ w. inr (w .12, last-too-many (record { before = record { before = record { before = record { before = record { before = record { before = record { before = record { before = record { before = record { before = c .before; parts-test = w .0 }; step-at = w .1 }; loop = w .2 }; loop-test = w .3 }; loop2 = w .4 }; if2 = w .5 }; if3 = w .6 }; last-profile = w .7 }; if15 = w .8 }; if16 = w .9 }))))))
+    (λ w. inr (w .16, row-too-many (record { before = record { before = record { before = record { before = record { before = record { before = record { before = record { before = record { before = record { before = record { before = record { before = record { before = record { before = c .before; parts-test = w .0 }; part = w .1 }; if1 = w .2 }; new-profile = w .3 }; loop = w .4 }; loop-test = w .5 }; loop2 = w .6 }; if3 = w .7 }; if5 = w .8 }; next = w .9 }; if12 = w .10 }; is-untouched = w .11 }; if13 = w .12 }; if14 = w .13 })))
+    (λ w. inr (w .14, last-too-many (record { before = record { before = record { before = record { before = record { before = record { before = record { before = record { before = record { before = record { before = record { before = record { before = c .before; parts-test = w .0 }; part = w .1 }; if1 = w .2 }; new-profile = w .3 }; loop = w .4 }; loop-test = w .5 }; loop2 = w .6 }; if3 = w .7 }; if4 = w .8 }; last-profile = w .9 }; if16 = w .10 }; if17 = w .11 }))))))
     (c .parts-test .came)
 
 -- where one is over, the table is as it was
 returns : tie.Need-returns Inv-loop μ-loop Inv-loop3 μ-loop3 Inv-loop4 μ-loop4 Inv-loop2 μ-loop2 Inv-loop5 μ-loop5 Inv-parts μ-parts
 returns c =
     let s = c .before .before in
-    let a = s .before .before .before .before .before .before in
-    let g = s .before .before .before .before .before .get-mandatory-part-adjustments in
+    let a = s .before .before .before .before .before .before .before .before .before .before .before in
+    let g = s .before .before .before .before .before .before .before .before .before .before .get-mandatory-part-adjustments in
     let e : Ended (g .result) (a .args .table) (s .parts-test .over) (a .args .table) =
     ⊎-elim
-    (λ f. absurd (true≢false (sym (c .before .if17 .taken) ∙ f .0)))
+    (λ f. absurd (true≢false (sym (c .before .if18 .taken) ∙ f .0)))
     (λ o. rw (o .0) (record { is-over = sym (o .1); is = refl; clean = a .pre .clean }))
     (left s) in
     ended-is (a .args .old) (a .args .new) (a .args .table) _ (g .ensures) _ _ e
@@ -441,10 +475,10 @@ returns c =
 returns-2 : tie.Need-returns-2 Inv-loop μ-loop Inv-loop3 μ-loop3 Inv-loop4 μ-loop4 Inv-loop2 μ-loop2 Inv-loop5 μ-loop5 Inv-parts μ-parts
 returns-2 c =
     let s = c .before in
-    let a = s .before .before .before .before .before .before in
-    let g = s .before .before .before .before .before .get-mandatory-part-adjustments in
+    let a = s .before .before .before .before .before .before .before .before .before .before .before in
+    let g = s .before .before .before .before .before .before .before .before .before .before .get-mandatory-part-adjustments in
     let e : Ended (g .result) (a .args .table) (s .parts-test .over) (tabled (s .parts-test .rows) (s .parts-test .count)) =
-    ⊎-elim (λ f. rw (f .0) (f .1)) (λ o. absurd (true≢false (sym (o .0) ∙ c .if17 .left))) (left s) in
+    ⊎-elim (λ f. rw (f .0) (f .1)) (λ o. absurd (true≢false (sym (o .0) ∙ c .if18 .left))) (left s) in
     ended-is (a .args .old) (a .args .new) (a .args .table) _ (g .ensures) _ _ e
 
 pub update-time-table-spec : {M : Type 1} → statement M
@@ -467,7 +501,13 @@ update-time-table-spec =
     add-steps
     empty-requires
     parts-holds
-    step-at-requires
+    array-copy-out-part
+    mul-part
+    array-copy-out-part-2
+    sub-part
+    mul-part-2
+    array-copy-out-part-3
+    new-profile-requires
     loop-holds
     sub-half
     add-row
