@@ -8,6 +8,7 @@ use mathlib.Core.List.{List, [], _∷_}
 use Prim.Native.Nat.{ℕ, _+_, _-_, _≤_, _<_}
 use native.Mathlib.Omega.{arith}
 use borrow.Author.Tests.{lt-ltb, le-ltb}
+use lib.Dec.{ltb}
 use lib.ListN.{length, drop, getD}
 use Rattle.time_table.specs.declared.Row.{Row}
 use Rattle.time_table.specs.declared.Part.{Part}
@@ -22,7 +23,6 @@ use Rattle.time_table.specs.Order.{Each}
 use Rattle.time_table.specs.Meaning.{Runs}
 use Rattle.time_table.specs.Insertion.{insertion, Insertable}
 use Rattle.time_table.specs.Removal.{removal, Removable}
-use Rattle.time_table.specs.Stepping.{stepAt}
 use Rattle.time_table.specs.Update.{after, overAfter, updateOver, updatedRows, updated, Updatable}
 use Rattle.time_table.proofs.Editing.{stepped, CanStep, Puts, Takes, Editable}
 use Rattle.time_table.proofs.Held.{held-next, held-end}
@@ -32,6 +32,12 @@ use Rattle.time_table.proofs.Steps.{edit-on}
 use Rattle.time_table.proofs.EditRight.{each-insertable, each-removable, insertion-right, removal-right}
 use Rattle.time_table.proofs.Updates.{left-held, parts-in, update-removes, update-adds}
 use Rattle.time_table.proofs.Sums.{lt-or-le}
+
+-- the steps by number: first the parts that are removed, then those that are added
+abbrev pub stepAt : MandatoryPartAdjustments → ℕ → Step
+stepAt a k =
+    cond (ltb k (a .removed .count)) (record { part = getD (a .removed .parts) k emptyPart; taking = true })
+    (record { part = getD (a .added .parts) (k - a .removed .count) emptyPart; taking = false })
 
 -- a table of an array and a count
 abbrev pub tabled : List Row → ℕ → Table

@@ -1,27 +1,18 @@
--- An update in steps: one part after another is taken out of the rows, or put into them, and each step goes from row to row.
+-- A step of an update takes a part out of the rows, or puts it into them, and goes from row to row.
 use mathlib.Core.Path.{_≡_}
 use mathlib.Core.Bool.{Bool, true, false, cond, not, _&&_, _||_}
 use mathlib.Core.List.{List, [], _++_}
 use Prim.Native.Nat.{ℕ, zero, suc, _-_, _≤_, _<_}
-use lib.Dec.{ltb, leb}
-use lib.ListN.{getD}
+use lib.Dec.{leb}
 use Rattle.time_table.specs.declared.Row.{Row}
 use Rattle.time_table.specs.declared.Part.{Part}
 use Rattle.time_table.specs.declared.pieces.Piece.{Piece}
 use Rattle.time_table.specs.declared.part_by_part.Step.{Step}
-use Rattle.time_table.specs.declared.mandatory_part_adjustments.MandatoryPartAdjustments.{MandatoryPartAdjustments}
 use Rattle.time_table.specs.Rows.{cut}
-use Rattle.time_table.specs.Adjustments.{emptyPart}
 use Rattle.time_table.specs.Overlap.{overlaps}
 use Rattle.time_table.specs.Pieces.{pieceOf, beforePart, afterPart}
 use Rattle.time_table.specs.Insertion.{alone, gapBefore, heightened, startedAt, Insertable}
 use Rattle.time_table.specs.Removal.{lessened, Removable}
-
--- the steps by number: first the parts that are removed, then those that are added
-abbrev pub stepAt : MandatoryPartAdjustments → ℕ → Step
-stepAt a k =
-    cond (ltb k (a .removed .count)) (record { part = getD (a .removed .parts) k emptyPart; taking = true })
-    (record { part = getD (a .added .parts) (k - a .removed .count) emptyPart; taking = false })
 
 -- the part of a step that has come to the instant x: what is put in starts there
 abbrev pub partAt : Step → ℕ → Part

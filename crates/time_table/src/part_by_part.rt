@@ -1,6 +1,6 @@
 // One step of an update, row by row: what a part that is taken out or put in makes of a row.
 ghost use mathlib.Core.Path.{_≡_};
-ghost use Prim.Native.Nat.{_+_, _<_, _≤_, _^_};
+ghost use Prim.Native.Nat.{_+_, _<_, _^_};
 ghost use Rattle.time_table.specs.Pieces.{Cuts};
 ghost use Rattle.time_table.specs.Insertion.{alone, startedAt, pastRow};
 ghost use Rattle.time_table.specs.Stepping.{partAt, untouched, coveredIn, NextPiece, madeLast, Changeable};

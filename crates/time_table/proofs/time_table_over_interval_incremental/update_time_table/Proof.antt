@@ -15,7 +15,7 @@ use lib.ListN.{length, set}
 use Rattle.time_table.specs.declared.Row.{Row}
 use Rattle.time_table.specs.declared.part_by_part.Step.{Step}
 use Rattle.time_table.specs.Rows.{noRow, rowsOf, rowAt}
-use Rattle.time_table.specs.Stepping.{stepAt, partAt, untouched, NextPiece}
+use Rattle.time_table.specs.Stepping.{partAt, untouched, NextPiece}
 use Rattle.time_table.proofs.Editing.{stepped}
 use Rattle.time_table.proofs.Piecewise.{alone-at}
 use Rattle.time_table.proofs.Rising.{Raised, raised-start, raised-more}
@@ -23,7 +23,7 @@ use Rattle.time_table.proofs.Stepped.{later-end}
 use Rattle.time_table.proofs.Laying.{laid-size, last-none, last-some, last-over, Moves, moves-on}
 use Rattle.time_table.proofs.Leading.{Walked, walked-from, walked-none, walked-piece, walked-over, walked-raised, two-ahead, no-place, next-lies, walked-cut, rest-over, walked-rests, moves-start, walked-moved}
 use Rattle.time_table.proofs.Front.{Front, front-behind, clear-start, clear-more, clear-all}
-use Rattle.time_table.proofs.Progress.{tabled, overAll, Progress, Turn, turn, Ended, finished, started, ended-is, Closing}
+use Rattle.time_table.proofs.Progress.{stepAt, tabled, overAll, Progress, Turn, turn, Ended, finished, started, ended-is, Closing}
 use Rattle.time_table.proofs.time_table_over_interval_incremental.update_time_table.Statement.{statement}
 use Rattle.time_table.proofs.time_table_over_interval_incremental.update_time_table.Tie as tie
 
