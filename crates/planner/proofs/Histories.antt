@@ -1,13 +1,14 @@
 -- Demand 3 over every history: what is heard of the accepted calls agrees with the plan, so each answer is right for it.
 -- Assumes nothing.
 use mathlib.Core.Path.{_≡_, refl, sym, ap, _∙_}
-use mathlib.Core.Bool.{true, false, true≢false}
+use mathlib.Core.Bool.{Bool, true, false, cond, true≢false}
 use mathlib.Core.Logic.{_⊎_, inl, inr, ⊎-elim}
 use mathlib.Core.List.{List, [], _∷_, map}
-use Prim.Native.Nat.{_<_}
+use Prim.Native.Nat.{ℕ, _<_}
 use native.Mathlib.Omega.{arith}
 use lib.IntN.{ℤ}
 use lib.ListN.{length, set, length-map}
+use lib.Seq.{take-at}
 use Rattle.time_table.specs.declared.Row.{Row}
 use Rattle.time_table.specs.Rows.{rowsOf, tableOf}
 use Rattle.time_table.specs.Meaning.{Right}
@@ -23,7 +24,9 @@ use Rattle.planner.specs.declared.Refusal.{Refusal}
 use Rattle.planner.specs.declared.Checked.{Checked}
 use Rattle.planner.specs.declared.Plan.{Plan}
 use Rattle.planner.specs.declared.Updated.{Updated}
-use Rattle.planner.specs.declared.Refusal.the-variants.{UnknownTask, TooManyRows}
+use Rattle.planner.specs.declared.RowRecord.{RowRecord}
+use Rattle.planner.specs.declared.Rows.{Rows}
+use Rattle.planner.specs.declared.Refusal.the-variants.{UnknownTask, TooManyRows, Stale}
 use Rattle.planner.specs.Instants.{tick, amount}
 use Rattle.planner.specs.Checks.{boundsChecked}
 use Rattle.planner.specs.Updates.{known, bounded, acceptedUpdate}
@@ -32,7 +35,8 @@ use Rattle.planner.specs.Records.{recordOf}
 use Rattle.planner.specs.Sound.{SoundTasks}
 use Rattle.planner.specs.Answers.{freshPlan, refusedUpdate}
 use Rattle.planner.specs.History.{Call, load, update, withoutPlaces, outcome, Heard, nothing, accepted, hear, lastHeard, planAfter, heardAfter}
-use Rattle.planner.specs.Demand.{Demanded, Answered}
+use Rattle.planner.specs.Questions.{rowsWith, rowsShown, shownRows}
+use Rattle.planner.specs.Demand.{Demanded, Answered, DemandedAfter}
 use Rattle.planner.proofs.Tests.{by-test}
 use Rattle.planner.proofs.Loading.{load-by, load-accepted, loaded-sound}
 use Rattle.planner.proofs.Known.{tasks-of}
@@ -187,3 +191,19 @@ pub live-demanded : (calls : List Call) → planAfter freshPlan calls .live ≡ 
 live-demanded calls live =
     let a = history-agrees calls in
     demanded-signed (heardAfter freshPlan nothing calls) (planAfter freshPlan calls .tasks) (a .sound .tasks) (a .tasks) (a .numbers) _ (a .sound .live live .right)
+
+-- so are the rows that `Plan::rows` answers
+module _ (calls : List Call) where
+  abbrev table : List RowRecord
+  table = map recordOf (rowsOf (planAfter freshPlan calls .table))
+
+  abbrev answer : Bool → Rows
+  answer live = cond live (rowsWith Checked.Accepted table) (rowsWith (Checked.Refused Stale) [])
+
+  pub rows-demanded : rowsShown (planAfter freshPlan calls) .answer ≡ Checked.Accepted → DemandedAfter calls (shownRows (rowsShown (planAfter freshPlan calls)))
+  unfolding rowsShown
+  rows-demanded = go (planAfter freshPlan calls .live) refl
+    where
+      go : (live : Bool) → planAfter freshPlan calls .live ≡ live → answer live .answer ≡ Checked.Accepted → DemandedAfter calls (shownRows (answer live))
+      go true live taken = rw (take-at table _ (length table) refl) (live-demanded calls live)
+      go false live taken = let clash : _≡_ {A = ℕ} 0 1 = cc in absurd (omega arith)

@@ -15,7 +15,8 @@ use Rattle.planner.specs.declared.Answer.the-variants.{Overloaded}
 use Rattle.planner.specs.declared.Updated.{Updated}
 use Rattle.planner.specs.Instants.{amount, mustRun}
 use Rattle.planner.specs.Records.{recordOf, idsOf, noRecord}
-use Rattle.planner.specs.History.{Heard}
+use Rattle.planner.specs.Answers.{freshPlan}
+use Rattle.planner.specs.History.{Call, Heard, nothing, heardAfter}
 
 -- the job must be running at the instant t
 abbrev pub running : Job → ℤ → Bool
@@ -77,3 +78,7 @@ pub record Answered (h : Heard) (o : Updated) : Type 0 where
   pub overloaded : (o .answer ≡ Overloaded) ↔ Exceeds h
   pub first : o .answer ≡ Overloaded → FirstExceeds h (o .row .start)
   pub live : o .plan .live ≡ true → Demanded (h .jobs) (map recordOf (rowsOf (o .plan .table)))
+
+-- rows as demanded of a live table after some calls of a fresh plan
+abbrev pub DemandedAfter : List Call → List RowRecord → Type 0
+DemandedAfter calls rows = Demanded (heardAfter freshPlan nothing calls .jobs) rows

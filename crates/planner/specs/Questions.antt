@@ -2,7 +2,7 @@
 use mathlib.Core.Bool.{cond}
 use mathlib.Core.List.{List, [], map}
 use lib.IntN.{ℤ}
-use lib.ListN.{length}
+use lib.ListN.{length, take}
 use Rattle.time_table.specs.Held.{pad}
 use Rattle.time_table.specs.Rows.{rowsOf}
 use Rattle.sweep.specs.declared.Task.{Task}
@@ -46,3 +46,7 @@ rowsWith answer l = record { answer = answer; rows = pad 128 noRecord l; count =
 
 unfoldable pub rowsShown : Plan → Rows
 rowsShown plan = cond (plan .live) (rowsWith Checked.Accepted (map recordOf (rowsOf (plan .table)))) (rowsWith (Checked.Refused Stale) [])
+
+-- the rows of an answer, in order
+abbrev pub shownRows : Rows → List RowRecord
+shownRows r = take (r .count) (r .rows)

@@ -1,6 +1,5 @@
 // The signed border: the checks of the numbers that a caller hands in, and how they become ticks and
-// amounts and come back. No other module sees a sign, but that `update::is_known` asks whether an id is
-// below 0.
+// amounts and come back. No other module sees a sign.
 ghost use mathlib.Core.Path.{_≡_};
 ghost use mathlib.Core.Bool.{true};
 ghost use Prim.Native.Nat.{_≤_, _<_};
@@ -10,6 +9,7 @@ ghost use lib.ListN.{take};
 ghost use Rattle.planner.specs.Ranges.{inRange, InRange, bounds};
 ghost use Rattle.planner.specs.Instants.{instant, tick, amount};
 ghost use Rattle.planner.specs.Checks.{boundsChecked, jobChecked, jobsChecked, capacityChecked};
+ghost use Rattle.planner.specs.Updates.{known};
 use crate::Checked;
 use crate::Job;
 use crate::Jobs;
@@ -107,4 +107,14 @@ pub(crate) fn check_capacity(capacity: i32) -> Checked
     } else {
         Checked::Refused(Refusal::CapacityOutOfRange)
     }
+}
+
+// Whether one of so many tasks has this id.
+pub(crate) fn is_known(count: usize, id: i32) -> bool
+    ensures { λ r. ⌜ r ≡ known count id ⌝ }
+{
+    if id < 0 {
+        return false;
+    }
+    (amount_of(id) as usize) < count
 }

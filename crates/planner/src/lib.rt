@@ -2,6 +2,7 @@
 // updated and asked. What a caller hands in and gets back is signed; inside all instants are ticks.
 mod border;
 pub mod load;
+mod plans;
 pub mod questions;
 pub mod records;
 pub mod update;

@@ -10,7 +10,6 @@ use crate::Refusal;
 use crate::Rows;
 use crate::border;
 use crate::records;
-use crate::update;
 use fit::Asked;
 use fit::Fit;
 use fit::first_fit;
@@ -33,7 +32,7 @@ impl Plan {
         ensures { λ r. ⌜ r ≡ fitOf self id ⌝ }
     {
         let tasks = self.tasks;
-        if !update::is_known(tasks.count, id) {
+        if !border::is_known(tasks.count, id) {
             return FirstFit::Refused(Refusal::UnknownTask);
         }
         if !self.live {

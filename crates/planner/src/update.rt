@@ -4,29 +4,19 @@ ghost use mathlib.Core.Bool.{true, false};
 ghost use Prim.Native.Nat.{_≤_, _<_};
 ghost use Rattle.planner.specs.Sound.{Sound};
 ghost use Rattle.planner.specs.Answers.{refusedUpdate};
-ghost use Rattle.planner.specs.Updates.{known, bounded, acceptedUpdate, updated};
+ghost use Rattle.planner.specs.Updates.{bounded, acceptedUpdate, updated};
 use crate::Answer;
 use crate::Checked;
 use crate::Plan;
 use crate::Refusal;
 use crate::Updated;
 use crate::border;
-use crate::load;
+use crate::plans;
 use crate::records;
 use sweep::Task;
 use sweep::Tasks;
 use time_table::time_table_over_interval_incremental::find_conflicting_profile;
 use time_table::time_table_over_interval_incremental::update_time_table;
-
-// Whether one of so many tasks has this id.
-pub(crate) fn is_known(count: usize, id: i32) -> bool
-    ensures { λ r. ⌜ r ≡ known count id ⌝ }
-{
-    if id < 0 {
-        return false;
-    }
-    (border::amount_of(id) as usize) < count
-}
 
 // A refused update: the plan as it was.
 pub(crate) fn refused_update(plan: Plan, why: Refusal) -> Updated
@@ -104,7 +94,7 @@ pub(crate) fn stale_update(plan: Plan, id: usize, earliest: u32, latest: u32) ->
     let mut tasks = plan.tasks;
     let old = tasks.list[id];
     tasks.list[id] = rebounded(old, earliest, latest);
-    load::swept_plan(plan.capacity, tasks)
+    plans::swept_plan(plan.capacity, tasks)
 }
 
 impl Plan {
@@ -114,7 +104,7 @@ impl Plan {
         ensures { λ r. ⌜ r ≡ updated self id earliest latest ⌝ }
         ensures { λ r. ⌜ Sound (r .plan) ⌝ }
     {
-        if !is_known(self.tasks.count, id) {
+        if !border::is_known(self.tasks.count, id) {
             return refused_update(self, Refusal::UnknownTask);
         }
         let checked = border::check_bounds(earliest, latest);

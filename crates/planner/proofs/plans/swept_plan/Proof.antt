@@ -3,8 +3,8 @@
 use Rattle.planner.proofs.Limits.{sound-sweepable}
 use Rattle.planner.proofs.Answering.{swept-low, swept-over-is, swept-fits-is, swept-stale-sound, swept-live-sound}
 use borrow.Author.Needs.{needs}
-use Rattle.planner.proofs.load.swept_plan.Statement.{statement}
-use Rattle.planner.proofs.load.swept_plan.Tie as tie
+use Rattle.planner.proofs.plans.swept_plan.Statement.{statement}
+use Rattle.planner.proofs.plans.swept_plan.Tie as tie
 
 create-time-table-over-interval-from-scratch-requires :
     tie.Need-create-time-table-over-interval-from-scratch-requires

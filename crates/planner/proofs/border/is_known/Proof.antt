@@ -9,8 +9,8 @@ use Rattle.planner.specs.Updates.{known}
 use Rattle.planner.proofs.Signed.{less-read}
 use borrow.Author.Needs.{needs}
 use native.Mathlib.Omega.{arith}
-use Rattle.planner.proofs.update.is_known.Statement.{statement}
-use Rattle.planner.proofs.update.is_known.Tie as tie
+use Rattle.planner.proofs.border.is_known.Statement.{statement}
+use Rattle.planner.proofs.border.is_known.Tie as tie
 
 not-less : (c : tie.Else1) → leZ (pos 0) (c .before .args .id) ≡ true
 not-less c = less-read (c .before .args .id) (pos 0) (c .before .fits .id) (record { sfits = omega arith }) (c .if1 .left)
