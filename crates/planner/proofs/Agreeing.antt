@@ -3,12 +3,13 @@
 use mathlib.Core.Path.{_≡_, refl, sym, ap, _∙_, subst}
 use mathlib.Core.Bool.{Bool, true, false, cond, not, false≢true}
 use mathlib.Core.Logic.{⊎-elim, _↔_}
-use mathlib.Core.List.{List, map}
+use mathlib.Core.List.{List, [], map}
 use Prim.Native.Nat.{ℕ, _≤_}
 use native.Mathlib.Omega.{arith}
 use lib.ListN.{length}
+use lib.Seq.{take-at}
 use Rattle.time_table.specs.declared.Row.{Row}
-use Rattle.time_table.specs.Rows.{tableOf}
+use Rattle.time_table.specs.Rows.{rowsOf, tableOf}
 use Rattle.time_table.specs.Meaning.{Right}
 use Rattle.time_table.specs.Overload.{conflictIn}
 use Rattle.time_table.specs.declared.Conflict.{Conflict}
@@ -17,12 +18,18 @@ use Rattle.sweep.specs.declared.Task.{Task}
 use Rattle.sweep.specs.Tasks.{tasksOf, tasksWith, usageOf, runs}
 use Rattle.sweep.specs.Sweep.{sweep, swept}
 use Rattle.sweep.proofs.Right.{sweep-right}
+use Rattle.planner.specs.declared.Job.{Job}
 use Rattle.planner.specs.declared.Plan.{Plan}
+use Rattle.planner.specs.declared.RowRecord.{RowRecord}
+use Rattle.planner.specs.declared.Rows.{Rows}
+use Rattle.planner.specs.declared.Checked.{Checked}
+use Rattle.planner.specs.declared.Refusal.the-variants.{Stale}
 use Rattle.planner.specs.declared.Answer.the-variants.{Fits, Overloaded}
 use Rattle.planner.specs.declared.Updated.{Updated}
 use Rattle.planner.specs.Instants.{amount}
 use Rattle.planner.specs.Loads.{taskOf}
 use Rattle.planner.specs.Records.{recordOf}
+use Rattle.planner.specs.Questions.{rowsWith, rowsShown, shownRows}
 use Rattle.planner.specs.Sound.{SoundTasks, Sound}
 use Rattle.planner.specs.Answers.{freshPlan, answerOf, shownRow, livePlan, sweptPlan}
 use Rattle.planner.specs.History.{Heard, nothing, accepted}
@@ -33,18 +40,21 @@ use Rattle.planner.proofs.Limits.{sound-sweepable}
 use Rattle.planner.proofs.Answering.{swept-stale-sound, swept-live-sound, live-sound}
 use Rattle.planner.proofs.Fresh.{fresh-sound}
 use Rattle.planner.proofs.SignedDraws.{AllNumbers}
+use Rattle.planner.proofs.ById.{ById, nothing-by-id}
 use Rattle.planner.proofs.SignedRows.{found-exactly, found-first, demanded-signed}
 
 -- what is heard agrees with the plan
 pub record Agrees (h : Heard) (plan : Plan) : Type 0 where
   pub sound : Sound plan
-  pub tasks : tasksOf (plan .tasks) ≡ map taskOf (h .jobs)
-  pub numbers : AllNumbers (h .jobs)
   pub capacity : plan .capacity ≡ amount (h .capacity)
+  pub kept : List Job
+  pub by-id : ById h kept
+  pub tasks : tasksOf (plan .tasks) ≡ map taskOf kept
+  pub numbers : AllNumbers kept
 
 pub fresh-agrees : Agrees nothing freshPlan
 unfolding AllNumbers amount
-fresh-agrees = record { sound = fresh-sound; tasks = refl; numbers = tt; capacity = refl }
+fresh-agrees = record { sound = fresh-sound; capacity = refl; kept = []; by-id = nothing-by-id; tasks = refl; numbers = tt }
 
 -- "overloaded" is answered exactly if a row was found
 pub answer-over : (c : Conflict) → (answerOf c ≡ Overloaded) ↔ (c .found ≡ true)
@@ -58,6 +68,22 @@ answer-accepted : (b : Bool) → accepted (cond b Overloaded Fits) ≡ true
 answer-accepted true = refl
 answer-accepted false = refl
 
+-- the rows that a question gets are those of the table, while it is live
+module _ (h : Heard) (plan : Plan) where
+  abbrev table : List RowRecord
+  table = map recordOf (rowsOf (plan .table))
+
+  abbrev answer : Bool → Rows
+  answer live = cond live (rowsWith Checked.Accepted table) (rowsWith (Checked.Refused Stale) [])
+
+  pub shown-demanded : (plan .live ≡ true → Demanded h table) → rowsShown plan .answer ≡ Checked.Accepted → Demanded h (shownRows (rowsShown plan))
+  unfolding rowsShown
+  shown-demanded demanded = go (plan .live) demanded
+    where
+      go : (live : Bool) → (live ≡ true → Demanded h table) → answer live .answer ≡ Checked.Accepted → Demanded h (shownRows (answer live))
+      go true demanded taken = rw (take-at table _ (length table) refl) (demanded refl)
+      go false demanded taken = let clash : _≡_ {A = ℕ} 0 1 = cc in absurd (omega arith)
+
 -- an accepted call: the plan agrees with what is heard then, and the answer is right
 pub record Good (h : Heard) (o : Updated) : Type 0 where
   pub taken : accepted (o .answer) ≡ true
@@ -65,9 +91,9 @@ pub record Good (h : Heard) (o : Updated) : Type 0 where
   pub answered : Answered h o
 
 -- rows that are right for tasks that agree
-module _ (h : Heard) (ts : List Task) (sound : SoundTasks (tasksWith ts)) (same : ts ≡ map taskOf (h .jobs)) (nums : AllNumbers (h .jobs))
+module _ (h : Heard) (jobs : List Job) (by-id : ById h jobs) (ts : List Task) (sound : SoundTasks (tasksWith ts)) (same : ts ≡ map taskOf jobs) (nums : AllNumbers jobs)
     (capacity : ℕ) (small : capacity ≤ 1000000000) (cap : capacity ≡ amount (h .capacity)) where
-  heard-tasks : tasksOf (tasksWith ts) ≡ map taskOf (h .jobs)
+  heard-tasks : tasksOf (tasksWith ts) ≡ map taskOf jobs
   heard-tasks = tasks-of ts ∙ same
 
   module _ (rows : List Row) (right : Right (runs ts) (usageOf ts) rows) where
@@ -76,17 +102,17 @@ module _ (h : Heard) (ts : List Task) (sound : SoundTasks (tasksWith ts)) (same 
 
     over-exactly : (answerOf (conflictIn capacity rows) ≡ Overloaded) ↔ Exceeds h
     over-exactly =
-        let w = found-exactly h (tasksWith ts) sound heard-tasks nums rows right-tasks capacity cap in
+        let w = found-exactly h jobs by-id (tasksWith ts) sound heard-tasks nums rows right-tasks capacity cap in
         let v = answer-over (conflictIn capacity rows) in
         ((λ e. w .0 (v .0 e)), λ e. v .1 (w .1 e))
 
     over-first : answerOf (conflictIn capacity rows) ≡ Overloaded → FirstExceeds h (shownRow (conflictIn capacity rows) .start)
     over-first e =
         let f = answer-over (conflictIn capacity rows) .0 e in
-        rw f (found-first h (tasksWith ts) sound heard-tasks nums rows right-tasks capacity cap f)
+        rw f (found-first h jobs by-id (tasksWith ts) sound heard-tasks nums rows right-tasks capacity cap f)
 
-    rows-demanded : Demanded (h .jobs) (map recordOf rows)
-    rows-demanded = demanded-signed h (tasksWith ts) sound heard-tasks nums rows right-tasks
+    rows-demanded : Demanded h (map recordOf rows)
+    rows-demanded = demanded-signed h jobs by-id (tasksWith ts) sound heard-tasks nums rows right-tasks
 
     -- a live table with these rows
     pub live-good : length rows ≤ 128 → Good h (livePlan capacity ts rows)
@@ -96,11 +122,19 @@ module _ (h : Heard) (ts : List Task) (sound : SoundTasks (tasksWith ts)) (same 
           agrees =
               record {
                 sound = live-sound capacity (tasksWith ts) (tableOf rows) sound (record { clean = clean-of rows few; right = rw (rows-of rows) right-tasks }) small;
+                capacity = cap;
+                kept = jobs;
+                by-id = by-id;
                 tasks = heard-tasks;
                 numbers = nums;
-                capacity = cap;
               };
-          answered = record { overloaded = over-exactly; first = over-first; live = λ e. rw (rows-of rows) rows-demanded };
+          answered =
+              record {
+                identified = by-id .identified;
+                overloaded = over-exactly;
+                first = over-first;
+                rows = shown-demanded h _ (λ live. rw (rows-of rows) rows-demanded);
+              };
         }
 
   -- the tasks swept
@@ -131,11 +165,12 @@ module _ (h : Heard) (ts : List Task) (sound : SoundTasks (tasksWith ts)) (same 
   swept-good =
       record {
         taken = answer-accepted found;
-        agrees = record { sound = swept-sound; tasks = heard-tasks; numbers = nums; capacity = cap };
+        agrees = record { sound = swept-sound; capacity = cap; kept = jobs; by-id = by-id; tasks = heard-tasks; numbers = nums };
         answered =
             record {
+              identified = by-id .identified;
               overloaded = over-exactly (sweep ts) sweep-is-right;
               first = over-first (sweep ts) sweep-is-right;
-              live = λ e. rw (not-found e, rows-of (sweep ts)) (rows-demanded (sweep ts) sweep-is-right);
+              rows = shown-demanded h _ (λ e. rw (not-found e, rows-of (sweep ts)) (rows-demanded (sweep ts) sweep-is-right));
             };
       }

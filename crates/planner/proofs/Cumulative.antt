@@ -14,15 +14,18 @@ use Rattle.time_table.specs.Meaning.{has}
 use Rattle.time_table.proofs.Sums.{has-in, lt-or-le}
 use Rattle.time_table.proofs.Bits.{both}
 use Rattle.planner.specs.declared.Job.{Job}
+use Rattle.planner.specs.declared.Checked.the-variants.{Accepted}
 use Rattle.planner.specs.declared.Answer.the-variants.{Fits, Overloaded}
-use Rattle.planner.specs.Instants.{instant, tick, amount, mustRun}
+use Rattle.planner.specs.Instants.{instant, tick, amount}
+use Rattle.planner.specs.Checks.{jobChecked}
+use Rattle.planner.specs.Running.{between, mustRun, runsFrom, StartOf}
 use Rattle.planner.specs.Answers.{freshPlan}
-use Rattle.planner.specs.History.{Call, Heard, nothing, accepted, outcome, hear, planAfter, heardAfter}
-use Rattle.planner.specs.Demand.{running, drawnAt, Exceeds}
-use Rattle.planner.specs.Cumulative.{StartOf, runsFrom, Starts, one, drawnFrom, Cumulative, AllFixed}
+use Rattle.planner.specs.History.{Call, Heard, nothing, accepted, outcome, tells, hear, planAfter, heardAfter}
+use Rattle.planner.specs.Demand.{drawnAt, Exceeds}
+use Rattle.planner.specs.Cumulative.{Starts, one, drawnFrom, Cumulative, AllFixed}
 use Rattle.planner.proofs.Ticks.{le-instant, instant-le}
 use Rattle.planner.proofs.Running.{AtTick, run-instant, run-at, at-tick}
-use Rattle.planner.proofs.Accepted.{Numbers}
+use Rattle.planner.proofs.Accepted.{Numbers, job-accepted}
 use Rattle.planner.proofs.SignedDraws.{AllNumbers}
 use Rattle.planner.proofs.Agreeing.{Good}
 use Rattle.planner.proofs.Histories.{accepted-good}
@@ -52,22 +55,22 @@ module _ (j : Job) (n : Numbers j) where
       instant-le (v .at) l ((λ i. leZ (sym (v .is) i) (n .starts .latest i)) ∙ start .late)
 
   -- where it must be running, it runs from each start
-  from-each : (t : ℤ) → running j t ≡ true → (s : ℤ) → StartOf j s → runsFrom j s t ≡ true
-  unfolding mustRun has
+  from-each : (t : ℤ) → mustRun j t ≡ true → (s : ℤ) → StartOf j s → runsFrom j s t ≡ true
+  unfolding between has
   from-each t must s start =
       let u = at-tick l t (ap (λ (x : ℤ). leZ x t) (n .starts .latest) ∙ both _ _ must .0) in
       let v = start-tick s start in
-      let part = both _ _ (sym (run-at (n .starts) (n .duration) (u .at)) ∙ ap (running j) (sym (u .is)) ∙ must) in
+      let part = both _ _ (sym (run-at (n .starts) (n .duration) (u .at)) ∙ ap (mustRun j) (sym (u .is)) ∙ must) in
       let reached : l ≤ u .at = leb-true l (u .at) (part .0) in
       let over : u .at < e + d = ltb-true (u .at) (e + d) (part .1) in
       (λ i. runsFrom j (v .is i) (u .is i))
-      ∙ ap (λ (x : ℤ). mustRun (instant (v .at)) (instant (v .at)) x (instant (u .at))) (n .duration .is)
+      ∙ ap (λ (x : ℤ). between (instant (v .at)) (instant (v .at) +ℤ x) (instant (u .at))) (n .duration .is)
       ∙ run-instant (v .at) (v .at) d (u .at)
       ∙ has-in (v .at) (v .at + d) (u .at) (omega (arith, reached, start-late s start)) (omega (arith, over, start-early s start))
 
   -- a job with one start only runs where it must
-  only-start : j .earliest ≡ j .latest → (s : ℤ) → StartOf j s → (t : ℤ) → running j t ≡ runsFrom j s t
-  unfolding mustRun
+  only-start : j .earliest ≡ j .latest → (s : ℤ) → StartOf j s → (t : ℤ) → mustRun j t ≡ runsFrom j s t
+  unfolding between
   only-start fixed s start t =
       let v = start-tick s start in
       let same : v .at ≡ e = omega (arith, start-early s start, start-late s start, ap tick fixed) in
@@ -80,16 +83,19 @@ module _ (j : Job) (n : Numbers j) where
   itself : (z : ℤ) (t : ℕ) → instant t ≡ z → leZ z z ≡ true
   itself z t is = (λ i. leZ (sym is i) (sym is i)) ∙ le-instant t t (omega arith)
 
-  -- a job must be running exactly where it runs whatever start is chosen
-  pub must-run : (t : ℤ) → (running j t ≡ true) ↔ ((s : ℤ) → StartOf j s → runsFrom j s t ≡ true)
-  unfolding mustRun
-  must-run t = (from-each t, whatever)
+  must-exactly : (t : ℤ) → (mustRun j t ≡ true) ↔ ((s : ℤ) → StartOf j s → runsFrom j s t ≡ true)
+  unfolding between
+  must-exactly t = (from-each t, whatever)
     where
-      whatever : ((s : ℤ) → StartOf j s → runsFrom j s t ≡ true) → running j t ≡ true
+      whatever : ((s : ℤ) → StartOf j s → runsFrom j s t ≡ true) → mustRun j t ≡ true
       whatever runs =
           let first = both (leZ (j .earliest) t) (ltZ t (j .earliest +ℤ j .duration)) (runs (j .earliest) (record { early = itself (j .earliest) e (n .starts .earliest); late = in-order })) in
           let last = both (leZ (j .latest) t) (ltZ t (j .latest +ℤ j .duration)) (runs (j .latest) (record { early = in-order; late = itself (j .latest) l (n .starts .latest) })) in
           (λ i. last .0 i && first .1 i)
+
+-- a job that a load accepts must be running exactly where it runs whatever start is chosen
+pub must-run : (j : Job) → jobChecked j ≡ Accepted → (t : ℤ) → (mustRun j t ≡ true) ↔ ((s : ℤ) → StartOf j s → runsFrom j s t ≡ true)
+must-run j ok = must-exactly j (job-accepted ok)
 
 -- a draw that is made where another is
 more-drawn : (x y : Bool) (draw : ℕ) → (x ≡ true → y ≡ true) → cond x draw 0 ≤ cond y draw 0
@@ -104,7 +110,7 @@ drawn-least [] n ss chosen t = omega arith
 drawn-least (j ∷ js) n (s ∷ ss) (one start more) t =
     omega (
       arith,
-      more-drawn (running j t) (runsFrom j s t) (amount (j .usage)) (λ must. from-each j (n .0) t must s start),
+      more-drawn (mustRun j t) (runsFrom j s t) (amount (j .usage)) (λ must. from-each j (n .0) t must s start),
       drawn-least js (n .1) ss more t,
     )
 
@@ -129,19 +135,19 @@ module _ (h : Heard) (n : AllNumbers (h .jobs)) (ss : List ℤ) (chosen : Starts
 
 -- after every history, by the last accepted bounds and for every choice of starts
 module _ (calls : List Call) (c : Call) (taken : accepted (outcome (planAfter freshPlan calls) c .answer) ≡ true) (ss : List ℤ)
-    (chosen : Starts (hear (heardAfter freshPlan nothing calls) c .jobs) ss) where
+    (chosen : Starts (hear (heardAfter freshPlan nothing calls) c (tells (planAfter freshPlan calls) c) .jobs) ss) where
   abbrev h : Heard
-  h = hear (heardAfter freshPlan nothing calls) c
+  h = hear (heardAfter freshPlan nothing calls) c (tells (planAfter freshPlan calls) c)
 
   good : Good h (outcome (planAfter freshPlan calls) c)
   good = accepted-good calls c taken
 
   -- an accepted call that answers "overloaded" leaves none that meets the constraint
   pub overloaded-none : outcome (planAfter freshPlan calls) c .answer ≡ Overloaded → Cumulative h ss → ⊥
-  overloaded-none over = exceeding h (good .agrees .numbers) ss chosen (good .answered .overloaded .0 over)
+  overloaded-none over = exceeding h (good .agrees .by-id .numbers) ss chosen (good .answered .overloaded .0 over)
 
   -- one that answers "fits", where each job has one start only, leaves that one, and it meets it
   pub fits-fixed : outcome (planAfter freshPlan calls) c .answer ≡ Fits → AllFixed (h .jobs) → Cumulative h ss
   fits-fixed fits fixed =
-      fitting h (good .agrees .numbers) ss chosen fixed
+      fitting h (good .agrees .by-id .numbers) ss chosen fixed
       (λ x. let e : Fits ≡ Overloaded = sym fits ∙ good .answered .overloaded .1 x in let clash : _≡_ {A = ℕ} 0 1 = cc in absurd (omega arith))

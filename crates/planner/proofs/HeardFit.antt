@@ -1,40 +1,41 @@
 -- First fit over every history: the table's height at each instant is what the heard jobs must draw there, and a plan's task is its job in ticks.
 -- Assumes nothing.
 use mathlib.Core.Path.{_≡_, refl, sym, ap, _∙_}
-use mathlib.Core.Bool.{true}
+use mathlib.Core.Bool.{true, _&&_}
 use mathlib.Core.Logic.{_↔_, ⊎-elim}
 use mathlib.Core.List.{List, [], _∷_, map}
 use Prim.Native.Nat.{ℕ, _<_}
 use native.Mathlib.Omega.{arith}
+use borrow.Author.Tests.{le-leb, lt-ltb}
 use lib.IntN.{ℤ, pos, _+ℤ_}
 use lib.ListN.{length}
-use lib.Signed.{ltZ}
+use lib.Signed.{leZ, ltZ}
 use Rattle.time_table.specs.declared.Row.{Row}
 use Rattle.time_table.specs.Rows.{rowsOf}
-use Rattle.sweep.specs.Tasks.{noTask, tasksOf, taskAt}
+use Rattle.sweep.specs.Tasks.{noTask, tasksOf, taskAt, lasts}
+use Rattle.time_table.proofs.Bits.{both}
 use Rattle.sweep.proofs.Placed.{get-map}
 use Rattle.planner.specs.declared.Job.{Job}
 use Rattle.planner.specs.declared.Plan.{Plan}
 use Rattle.planner.specs.declared.FirstFit.the-variants.{Start, Nowhere}
 use Rattle.planner.specs.Ranges.{bounds}
 use Rattle.planner.specs.Instants.{amount}
+use Rattle.planner.specs.Running.{runLength, between}
 use Rattle.planner.specs.Given.{noJob}
 use Rattle.planner.specs.Records.{recordOf}
 use Rattle.planner.specs.Loads.{taskOf}
 use Rattle.planner.specs.Questions.{fitOf}
 use Rattle.planner.specs.Refused.{HasTask}
 use Rattle.planner.specs.Answers.{freshPlan}
-use Rattle.planner.specs.History.{Call, Heard, nothing, planAfter, heardAfter}
+use Rattle.planner.specs.History.{Call, Heard, nothing, jobAt, Told, planAfter, heardAfter}
 use Rattle.planner.specs.Demand.{drawnAt}
 use Rattle.planner.specs.SignedFit.{heightThen, FitsAt, FirstAt}
-use Rattle.planner.specs.HeardFit.{HasJob, jobWith, HeardFits, HeardFirst}
+use Rattle.planner.specs.HeardFit.{HeardFits, HeardFirst}
 use Rattle.planner.proofs.Running.{below, placed}
-use Rattle.planner.proofs.Known.{known-true}
-use Rattle.planner.proofs.Ids.{has-task}
 use Rattle.planner.proofs.Accepted.{Numbers}
-use Rattle.planner.proofs.SignedDraws.{draw-below}
+use Rattle.planner.proofs.SignedDraws.{numbers-at, draw-below}
+use Rattle.planner.proofs.ById.{drawn-kept}
 use Rattle.planner.proofs.SignedRows.{counts, height-signed}
-use Rattle.planner.proofs.HeardJobs.{numbers-at}
 use Rattle.planner.proofs.Agreeing.{Agrees}
 use Rattle.planner.proofs.Histories.{history-agrees}
 use Rattle.planner.proofs.FitInstants.{height-then, start-exactly, nowhere-exactly}
@@ -51,50 +52,53 @@ module _ (h : Heard) (plan : Plan) (a : Agrees h plan) (live : plan .live ≡ tr
   height-heard t =
       ⊎-elim
       (λ w. rw (w .is) (height-then (rowsOf (plan .table)) (w .at)
-      ∙ height-signed h (plan .tasks) (a .sound .tasks) (a .tasks) (a .numbers) (rowsOf (plan .table)) (a .sound .live live .right) (w .at)))
-      (λ low. height-below t low (rowsOf (plan .table)) ∙ sym (draw-below t low (h .jobs) (a .numbers)))
+      ∙ height-signed h (a .kept) (a .by-id) (plan .tasks) (a .sound .tasks) (a .tasks) (a .numbers) (rowsOf (plan .table)) (a .sound .live live .right) (w .at)))
+      (λ low. height-below t low (rowsOf (plan .table)) ∙ sym (drawn-kept h (a .kept) (a .by-id) t ∙ draw-below t low (a .kept) (a .numbers)))
       (placed t)
 
   -- a start that fits by the table and one that fits by what is heard, of a job in range
   module _ (j : Job) (n : Numbers j) (z : ℤ) where
-    run-heard : (t : ℤ) → ltZ t (z +ℤ j .duration) ≡ ltZ t (z +ℤ pos (amount (j .duration)))
+    run-heard : (t : ℤ) → ltZ t (z +ℤ runLength j) ≡ ltZ t (z +ℤ pos (lasts (taskOf j)))
     run-heard t = ap (λ (d : ℤ). ltZ t (z +ℤ d)) (n .duration .is)
 
     to-heard : FitsAt plan (taskOf j) z → HeardFits h j z
+    unfolding between
     to-heard w =
         record {
-          early = rw (n .starts .earliest) at (w .early);
-          late = rw (n .starts .latest) at (w .late);
-          fits = λ t from to. omega (arith, w .fits t from (sym (run-heard t) ∙ to), height-heard t, a .capacity);
+          start = record { early = rw (n .starts .earliest) at (w .early); late = rw (n .starts .latest) at (w .late) };
+          fits = λ t runs.
+              let r = both (leZ z t) (ltZ t (z +ℤ runLength j)) runs in
+              omega (arith, w .fits t (r .0) (sym (run-heard t) ∙ r .1), height-heard t, a .capacity);
         }
 
     from-heard : HeardFits h j z → FitsAt plan (taskOf j) z
+    unfolding between
     from-heard w =
         record {
-          early = rw (n .starts .earliest) (w .early);
-          late = rw (n .starts .latest) (w .late);
-          fits = λ t from to. omega (arith, w .fits t from (run-heard t ∙ to), height-heard t, a .capacity);
+          early = rw (n .starts .earliest) (w .start .early);
+          late = rw (n .starts .latest) (w .start .late);
+          fits = λ t from to. omega (arith, w .fits t (λ i. from i && (run-heard t ∙ to) i), height-heard t, a .capacity);
         }
 
-  module _ (id : ℤ) (there : HasJob h id) where
+  module _ (p i : ℕ) (told : Told h p i) where
     abbrev job : Job
-    job = jobWith h id
+    job = jobAt h p
 
-    count-heard : plan .tasks .count ≡ length (h .jobs)
-    count-heard = counts h (plan .tasks) (a .sound .tasks) (a .tasks) (a .numbers) (rowsOf (plan .table)) (a .sound .live live .right)
+    inside : i < length (a .kept)
+    inside = a .by-id .at p i told .0
 
-    task-there : HasTask plan id
-    task-there = record { low = there .low; high = ap (λ (k : ℕ). ltZ id (pos k)) count-heard ∙ there .high }
-
-    inside : amount id < length (h .jobs)
-    inside = omega (arith, known-true (plan .tasks .count) id (has-task plan id .1 task-there) .1, count-heard)
+    task-there : HasTask plan (pos i)
+    task-there =
+        let n = counts h (a .kept) (a .by-id) (plan .tasks) (a .sound .tasks) (a .tasks) (a .numbers) (rowsOf (plan .table)) (a .sound .live live .right) in
+        record { low = le-leb 0 i (omega arith); high = lt-ltb i (plan .tasks .count) (omega (arith, inside)) }
 
     job-numbers : Numbers job
-    job-numbers = numbers-at (h .jobs) (a .numbers) (amount id) inside
+    job-numbers = numbers-at (h .jobs) (a .by-id .numbers) p (told .inside)
 
     -- the plan's task is the job in ticks
-    task-heard : taskAt (tasksOf (plan .tasks)) (amount id) ≡ taskOf job
-    task-heard = rw (a .tasks) (get-map taskOf noJob noTask (h .jobs) (amount id) inside)
+    task-heard : taskAt (tasksOf (plan .tasks)) (amount (pos i)) ≡ taskOf job
+    unfolding amount
+    task-heard = rw (a .tasks) (get-map taskOf noJob noTask (a .kept) i inside) ∙ ap taskOf (a .by-id .at p i told .1)
 
     to-first : (z : ℤ) → FirstAt plan (taskOf job) z → HeardFirst h job z
     to-first z w = record { fit = to-heard job job-numbers z (w .fit); least = λ y v. w .least y (from-heard job job-numbers y v) }
@@ -102,23 +106,23 @@ module _ (h : Heard) (plan : Plan) (a : Agrees h plan) (live : plan .live ≡ tr
     from-first : (z : ℤ) → HeardFirst h job z → FirstAt plan (taskOf job) z
     from-first z w = record { fit = from-heard job job-numbers z (w .fit); least = λ y v. w .least y (to-heard job job-numbers y v) }
 
-    agreeing-start : (z : ℤ) → (fitOf plan id ≡ Start z) ↔ HeardFirst h job z
+    agreeing-start : (z : ℤ) → (fitOf plan (pos i) ≡ Start z) ↔ HeardFirst h job z
     agreeing-start z =
-        let exactly = rw task-heard at (start-exactly plan id (a .sound) live task-there z) in
+        let exactly = rw task-heard at (start-exactly plan (pos i) (a .sound) live task-there z) in
         (λ e. to-first z (exactly .0 e), λ w. exactly .1 (from-first z w))
 
-    agreeing-nowhere : (fitOf plan id ≡ Nowhere) ↔ ((z : ℤ) → ¬ HeardFits h job z)
+    agreeing-nowhere : (fitOf plan (pos i) ≡ Nowhere) ↔ ((z : ℤ) → ¬ HeardFits h job z)
     agreeing-nowhere =
-        let exactly = rw task-heard at (nowhere-exactly plan id (a .sound) live task-there) in
+        let exactly = rw task-heard at (nowhere-exactly plan (pos i) (a .sound) live task-there) in
         (λ e z w. exactly .0 e z (from-heard job job-numbers z w), λ none. exactly .1 (λ z w. none z (to-heard job job-numbers z w)))
 
--- after every history that leaves the table live, of a job that is heard
-module _ (calls : List Call) (live : planAfter freshPlan calls .live ≡ true) (id : ℤ) (there : HasJob (heardAfter freshPlan nothing calls) id) where
+-- after every history that leaves the table live, of the job at the place p of the input, which was told the id i
+module _ (calls : List Call) (live : planAfter freshPlan calls .live ≡ true) (p i : ℕ) (told : Told (heardAfter freshPlan nothing calls) p i) where
   abbrev h : Heard
   h = heardAfter freshPlan nothing calls
 
-  pub heard-start : (z : ℤ) → (fitOf (planAfter freshPlan calls) id ≡ Start z) ↔ HeardFirst h (jobWith h id) z
-  heard-start z = agreeing-start h (planAfter freshPlan calls) (history-agrees calls) live id there z
+  pub heard-start : (z : ℤ) → (fitOf (planAfter freshPlan calls) (pos i) ≡ Start z) ↔ HeardFirst h (jobAt h p) z
+  heard-start z = agreeing-start h (planAfter freshPlan calls) (history-agrees calls) live p i told z
 
-  pub heard-nowhere : (fitOf (planAfter freshPlan calls) id ≡ Nowhere) ↔ ((z : ℤ) → ¬ HeardFits h (jobWith h id) z)
-  heard-nowhere = agreeing-nowhere h (planAfter freshPlan calls) (history-agrees calls) live id there
+  pub heard-nowhere : (fitOf (planAfter freshPlan calls) (pos i) ≡ Nowhere) ↔ ((z : ℤ) → ¬ HeardFits h (jobAt h p) z)
+  heard-nowhere = agreeing-nowhere h (planAfter freshPlan calls) (history-agrees calls) live p i told

@@ -3,7 +3,6 @@
 use mathlib.Core.Path.{_≡_, refl, ap, _∙_}
 use mathlib.Core.List.{List, [], _∷_, map}
 use Prim.Native.Nat.{ℕ, zero, suc, _<_}
-use native.Mathlib.Nat.{not-suc-le-zero, le-of-suc-le-suc}
 use native.Mathlib.Omega.{arith}
 use lib.IntN.{ℤ}
 use lib.ListN.{length, getD, set, length-map}
@@ -19,10 +18,11 @@ use Rattle.planner.specs.Checks.{jobsChecked, boundsChecked}
 use Rattle.planner.specs.Given.{noJob}
 use Rattle.planner.specs.Loads.{taskOf}
 use Rattle.planner.specs.Updates.{bounded}
-use Rattle.planner.specs.History.{keptJobs, rebounded}
+use Rattle.planner.specs.History.{rebounded}
 use Rattle.planner.proofs.Accepted.{Numbers, bounds-accepted, job-accepted}
 use Rattle.planner.proofs.InputOrder.{jobs-accepted}
-use Rattle.planner.proofs.SignedDraws.{AllNumbers}
+use Rattle.planner.proofs.SignedDraws.{AllNumbers, numbers-at}
+use Rattle.planner.proofs.ById.{keptJobs}
 
 -- some of the jobs, in ticks and in range
 module _ (js : List Job) where
@@ -54,12 +54,6 @@ set-map : (js : List Job) (i : ℕ) (j : Job) → set (map taskOf js) i (taskOf 
 set-map [] i j = refl
 set-map (k ∷ js) zero j = refl
 set-map (k ∷ js) (suc i) j = ap (λ (l : List Task). taskOf k ∷ l) (set-map js i j)
-
-pub numbers-at : (js : List Job) → AllNumbers js → (i : ℕ) → i < length js → Numbers (getD js i noJob)
-unfolding AllNumbers
-numbers-at [] n i lt = absurd (not-suc-le-zero lt)
-numbers-at (j ∷ js) n zero lt = n .0
-numbers-at (j ∷ js) n (suc i) lt = numbers-at js (n .1) i (le-of-suc-le-suc lt)
 
 numbers-set : (js : List Job) → AllNumbers js → (i : ℕ) (j : Job) → Numbers j → AllNumbers (set js i j)
 unfolding AllNumbers

@@ -17,6 +17,9 @@ pub mod Asking
 pub mod ShownRows
 pub mod Loading
 pub mod SignedDraws
+pub mod IndexSums
+pub mod IdleJobs
+pub mod ById
 pub mod SignedRows
 pub mod HeardJobs
 pub mod Agreeing

@@ -6,18 +6,19 @@ use mathlib.Core.Logic.{_⊎_, inl, inr, ⊎-elim}
 use Prim.Native.Nat.{ℕ, suc, _+_, _-_, _<_}
 use native.Mathlib.Omega.{arith}
 use borrow.Author.Tests.{ltb-true, lt-leb}
-use lib.IntN.{ℤ, pos, negsuc}
+use lib.IntN.{ℤ, pos, negsuc, _+ℤ_}
 use lib.Signed.{leZ, ltZ}
 use Rattle.time_table.specs.Meaning.{has}
 use Rattle.time_table.proofs.Sums.{lt-or-le}
 use Rattle.planner.specs.Ranges.{bounds}
-use Rattle.planner.specs.Instants.{instant, tick, amount, mustRun}
+use Rattle.planner.specs.Instants.{instant, tick, amount}
+use Rattle.planner.specs.Running.{between}
 use Rattle.planner.proofs.Tests.{by-test, ltZ-not}
 use Rattle.planner.proofs.Ticks.{instant-tick, instant-sum, instant-low, instant-high, instant-order, instant-strict}
 use Rattle.planner.proofs.Accepted.{Bounds, Amount}
 
-pub run-instant : (a b d s : ℕ) → mustRun (instant a) (instant b) (pos d) (instant s) ≡ has b (a + d) s
-unfolding mustRun has
+pub run-instant : (a b d s : ℕ) → between (instant b) (instant a +ℤ pos d) (instant s) ≡ has b (a + d) s
+unfolding between has
 run-instant a b d s = rw (← instant-sum a d, instant-order b s, instant-strict s (a + d))
 
 -- an instant below the first tick is below each tick's instant
@@ -31,14 +32,14 @@ below (negsuc n) s h =
     (lt-or-le s 1000000000)
 
 module _ {e l : ℤ} (b : Bounds e l) where
-  pub run-at : {d : ℤ} {most : ℕ} → Amount most d → (s : ℕ) → mustRun e l d (instant s) ≡ has (tick l) (tick e + amount d) s
+  pub run-at : {d : ℤ} {most : ℕ} → Amount most d → (s : ℕ) → between l (e +ℤ d) (instant s) ≡ has (tick l) (tick e + amount d) s
   run-at {d} a s =
-      (λ i. mustRun (sym (b .earliest) i) (sym (b .latest) i) (a .is i) (instant s))
+      (λ i. between (sym (b .latest) i) (sym (b .earliest) i +ℤ a .is i) (instant s))
       ∙ run-instant (tick e) (tick l) (amount d) s
 
-  pub run-low : (d t : ℤ) → ltZ t (bounds .lo) ≡ true → mustRun e l d t ≡ false
-  unfolding mustRun
-  run-low d t h = rw (← (b .latest), below t (tick l) h)
+  pub run-low : (until t : ℤ) → ltZ t (bounds .lo) ≡ true → between l until t ≡ false
+  unfolding between
+  run-low until t h = rw (← (b .latest), below t (tick l) h)
 
 -- every integer is the instant of a tick or below them all
 pub record AtTick (t : ℤ) : Type 0 where

@@ -1,23 +1,14 @@
 -- The cumulative constraint of the Global Constraint Catalog: starts are chosen, one for each job within its bounds, and at each instant the draws
--- of the running jobs sum to at most the capacity.
+-- of the running jobs sum to at most the capacity. The jobs are those that were handed in.
 use mathlib.Core.Path.{_≡_}
-use mathlib.Core.Bool.{Bool, true, cond, _&&_}
+use mathlib.Core.Bool.{cond}
 use mathlib.Core.List.{List, [], _∷_}
 use Prim.Native.Nat.{ℕ, _+_, _≤_}
-use lib.IntN.{ℤ, _+ℤ_}
-use lib.Signed.{leZ, ltZ}
+use lib.IntN.{ℤ}
 use Rattle.planner.specs.declared.Job.{Job}
 use Rattle.planner.specs.Instants.{amount}
+use Rattle.planner.specs.Running.{StartOf, runsFrom}
 use Rattle.planner.specs.History.{Heard}
-
--- s is a start within the job's bounds
-pub record StartOf (j : Job) (s : ℤ) : Type 0 where
-  pub early : leZ (j .earliest) s ≡ true
-  pub late : leZ s (j .latest) ≡ true
-
--- the job, started at s, runs at t
-abbrev pub runsFrom : Job → ℤ → ℤ → Bool
-runsFrom j s t = leZ s t && ltZ t (s +ℤ j .duration)
 
 -- one start for each job, in their order
 pub data Starts : List Job → List ℤ → Type 0 where

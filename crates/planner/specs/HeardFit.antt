@@ -4,29 +4,18 @@
 use mathlib.Core.Path.{_≡_}
 use mathlib.Core.Bool.{true}
 use Prim.Native.Nat.{_+_, _≤_}
-use lib.IntN.{ℤ, pos, _+ℤ_}
-use lib.ListN.{length, getD}
-use lib.Signed.{leZ, ltZ}
+use lib.IntN.{ℤ}
+use lib.Signed.{leZ}
 use Rattle.planner.specs.declared.Job.{Job}
 use Rattle.planner.specs.Instants.{amount}
-use Rattle.planner.specs.Given.{noJob}
+use Rattle.planner.specs.Running.{StartOf, runsFrom}
 use Rattle.planner.specs.History.{Heard}
 use Rattle.planner.specs.Demand.{drawnAt}
 
--- a job has this id: the ids are the numbers from 0 up to but without the number of jobs
-pub record HasJob (h : Heard) (id : ℤ) : Type 0 where
-  pub low : leZ (pos 0) id ≡ true
-  pub high : ltZ id (pos (length (h .jobs))) ≡ true
-
--- the job with this id
-abbrev pub jobWith : Heard → ℤ → Job
-jobWith h id = getD (h .jobs) (amount id) noJob
-
 -- z is a start within the job's bounds at which the run fits; the job's own mandatory part is among what must be drawn
 pub record HeardFits (h : Heard) (j : Job) (z : ℤ) : Type 0 where
-  pub early : leZ (j .earliest) z ≡ true
-  pub late : leZ z (j .latest) ≡ true
-  pub fits : (t : ℤ) → leZ z t ≡ true → ltZ t (z +ℤ j .duration) ≡ true → drawnAt (h .jobs) t + amount (j .usage) ≤ amount (h .capacity)
+  pub start : StartOf j z
+  pub fits : (t : ℤ) → runsFrom j z t ≡ true → drawnAt (h .jobs) t + amount (j .usage) ≤ amount (h .capacity)
 
 -- z is the smallest such start
 pub record HeardFirst (h : Heard) (j : Job) (z : ℤ) : Type 0 where

@@ -1,6 +1,7 @@
 pub mod Refusals
 pub mod Ranges
 pub mod Instants
+pub mod Running
 pub mod Checks
 pub mod Given
 pub mod Kept

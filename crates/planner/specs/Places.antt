@@ -1,10 +1,9 @@
 -- What an accepted load answers for each input job: that it is dropped, or the id under which it is known from then on.
 use mathlib.Core.Path.{_≡_}
-use mathlib.Core.List.{List}
 use mathlib.Core.Logic.{_⊎_}
-use Prim.Native.Nat.{ℕ, _<_}
+use Prim.Native.Nat.{ℕ}
 use lib.IntN.{pos}
-use lib.ListN.{length, getD}
+use lib.ListN.{getD}
 use Rattle.sweep.specs.declared.util.Placed.{Placed}
 use Rattle.sweep.specs.Tasks.{tasksOf, taskAt}
 use Rattle.sweep.specs.Created.{dropped}
@@ -27,9 +26,7 @@ placeOf l i = getD (l .placed) i dropped
 abbrev pub Idle : Job → Type 0
 Idle j = (j .usage ≡ pos 0) ⊎ (j .duration ≡ pos 0)
 
--- a job has this id after a load: among the jobs that are heard by id it is the one with it, and the plan has a task with it, which is the job in ticks
-pub record KnownAs (id : ℕ) (j : Job) (jobs : List Job) (plan : Plan) : Type 0 where
-  pub below : id < length jobs
-  pub heard : getD jobs id noJob ≡ j
+-- a job has this id after a load: the plan has a task with it, which is the job in ticks
+pub record KnownAs (id : ℕ) (j : Job) (plan : Plan) : Type 0 where
   pub there : HasTask plan (pos id)
   pub task : taskAt (tasksOf (plan .tasks)) id ≡ taskOf j
