@@ -94,7 +94,7 @@ pub(crate) fn refused_load(plan: Plan, why: Refusal) -> Loaded
         plan,
         answer: Answer::Refused(why),
         row: records::no_record(),
-        placed: [dropped; 32],
+        placed: [dropped; Plan::JOBS],
     }
 }
 

@@ -56,7 +56,7 @@ impl Plan {
         ensures { λ r. ⌜ r ≡ rowsShown self ⌝ }
     {
         let none = records::no_record();
-        let mut rows = [none; 128];
+        let mut rows = [none; Plan::ROWS];
         if !self.live {
             return Rows {
                 rows,

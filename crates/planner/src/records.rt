@@ -15,7 +15,7 @@ pub fn no_record() -> RowRecord
         start: 0,
         end: 0,
         height: 0,
-        ids: [0u8; 32],
+        ids: [0u8; RowRecord::IDS],
         count: 0,
     }
 }
