@@ -23,13 +23,14 @@ use Rattle.planner.specs.declared.RowRecord.{RowRecord}
 use Rattle.planner.specs.declared.Answer.the-variants.{Fits, Overloaded}
 use Rattle.planner.specs.declared.Updated.{Updated}
 use Rattle.planner.specs.declared.Plan.{Plan}
+use Rattle.planner.specs.Ranges.{maxCapacity, lastEnd}
 use Rattle.planner.specs.Records.{recordOf, noRecord}
 use Rattle.planner.specs.Sound.{SoundTasks, Live, Sound}
 use Rattle.planner.specs.Answers.{livePlan, sweptPlan}
 use Rattle.planner.proofs.Known.{tasks-self}
 use Rattle.planner.proofs.Limits.{row-low, sound-sweepable}
 
-module _ (capacity : ℕ) (ts : Tasks) (t : Table) (sound : SoundTasks ts) (live : Live ts t) (small : capacity ≤ 1000000000) where
+module _ (capacity : ℕ) (ts : Tasks) (t : Table) (sound : SoundTasks ts) (live : Live ts t) (small : capacity ≤ maxCapacity) where
   abbrev plan : Plan
   plan = record { capacity = capacity; tasks = ts; live = true; table = t }
 
@@ -38,7 +39,7 @@ module _ (capacity : ℕ) (ts : Tasks) (t : Table) (sound : SoundTasks ts) (live
 
   module _ (k : Conflict) (e : k ≡ conflictIn capacity (rowsOf t)) where
     -- the row that is shown lies within the instants that a plan can touch
-    pub shown-low : k .found ≡ true → (k .row .start < 3000000000) × (k .row .end < 3000000000)
+    pub shown-low : k .found ≡ true → (k .row .start < lastEnd) × (k .row .end < lastEnd)
     shown-low f =
         let w = conflict-row capacity (rowsOf t) (ap (λ (x : Conflict). x .found) (sym e) ∙ f) in
         let same : k .row ≡ rowAt (rowsOf t) (w .at) = ap (λ (x : Conflict). x .row) e ∙ w .is in
@@ -65,14 +66,14 @@ module _ (capacity : ℕ) (ts : Tasks) (t : Table) (sound : SoundTasks ts) (live
         })
 
 -- the same from a sweep
-module _ (capacity : ℕ) (ts : Tasks) (sound : SoundTasks ts) (small : capacity ≤ 1000000000) (s : Swept) (e : s ≡ swept capacity (tasksOf ts)) where
+module _ (capacity : ℕ) (ts : Tasks) (sound : SoundTasks ts) (small : capacity ≤ maxCapacity) (s : Swept) (e : s ≡ swept capacity (tasksOf ts)) where
   found-is : {test : Bool} → s .overloaded ≡ test → conflictIn capacity (sweep (tasksOf ts)) .found ≡ test
   found-is f = ap (λ (x : Swept). x .overloaded) (sym e) ∙ f
 
   right : Right (runs (tasksOf ts)) (usageOf (tasksOf ts)) (sweep (tasksOf ts))
   right = sweep-right (tasksOf ts) (omega (arith, sound .held .counts, sound .held .fits)) (sound-sweepable ts sound .ends)
 
-  pub swept-low : s .overloaded ≡ true → (s .row .start < 3000000000) × (s .row .end < 3000000000)
+  pub swept-low : s .overloaded ≡ true → (s .row .start < lastEnd) × (s .row .end < lastEnd)
   swept-low f =
       let w = conflict-row capacity (sweep (tasksOf ts)) (found-is f) in
       let same : s .row ≡ rowAt (sweep (tasksOf ts)) (w .at) = ap (λ (x : Swept). x .row) e ∙ w .is in

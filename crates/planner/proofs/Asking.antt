@@ -17,6 +17,7 @@ use Rattle.sweep.specs.Tasks.{noTask, tasksOf, taskAt}
 use Rattle.planner.specs.declared.Plan.{Plan}
 use Rattle.planner.specs.declared.Refusal.the-variants.{UnknownTask, Stale}
 use Rattle.planner.specs.declared.FirstFit.{FirstFit}
+use Rattle.planner.specs.Ranges.{lastEnd}
 use Rattle.planner.specs.Instants.{amount}
 use Rattle.planner.specs.Checks.{unless, _then_}
 use Rattle.planner.specs.Sound.{Sound}
@@ -53,7 +54,7 @@ module _ (plan : Plan) (id : ℤ) where
           let l = s .tasks .limited (amount id) (known-true (plan .tasks .count) id k .1) in
           record { arranged = record { clean = v .clean; ordered = v .right .ordered }; top = omega (arith, l) }
 
-      pub start-low : firstFit (askedBy task) (plan .capacity) (rowsOf (plan .table)) .start < 3000000000
+      pub start-low : firstFit (askedBy task) (plan .capacity) (rowsOf (plan .table)) .start < lastEnd
       start-low =
           let l = s .tasks .limited (amount id) (known-true (plan .tasks .count) id k .1) in
           let f = firstFit (askedBy task) (plan .capacity) (rowsOf (plan .table)) in

@@ -1,68 +1,67 @@
--- Refusals 3 to 6 are given exactly when document 01 says so: each is read off its row of the table.
+-- Refusals 3 to 6 are given exactly when document 01 says so: each is read off its row of the table, and the other rows have other numbers.
 -- Assumes nothing.
 use mathlib.Core.Path.{_≡_}
 use mathlib.Core.Bool.{true}
-use mathlib.Core.Logic.{_⊎_, _↔_}
-use Prim.Native.Nat.{_≤_}
+use mathlib.Core.Logic.{_⊎_, _↔_, Iff·trans}
+use Prim.Native.Nat.{ℕ, _≤_}
 use native.Mathlib.Omega.{arith}
 use lib.IntN.{ℤ}
 use lib.Signed.{ltZ}
 use Rattle.planner.specs.declared.Job.{Job}
-use Rattle.planner.specs.declared.Refusal.{Refusal}
-use Rattle.planner.specs.declared.Refusal.the-variants.{BoundOutOfRange, BoundsCrossed, DurationOutOfRange, UsageOutOfRange}
-use Rattle.planner.specs.declared.Checked.the-variants.{Accepted, Refused}
-use Rattle.planner.specs.Refusals.{numberOf}
+use Rattle.planner.specs.Refusals.{admitted, refused}
 use Rattle.planner.specs.Ranges.{InRange, bounds, durations, usages}
-use Rattle.planner.specs.Checks.{boundsChecked, jobChecked}
 use Rattle.planner.specs.Given.{BoundsGiven, bound-out, crossed, JobGiven, bounds-refused, duration-out, usage-out}
-use Rattle.planner.proofs.Given.{bounds-exactly, job-exactly}
+
+-- the numbers of start bounds, and of a job
+pub bounds-number : {e l : ℤ} {n : ℕ} → BoundsGiven e l (refused n) → (3 ≤ n) × (n ≤ 4)
+bounds-number (bound-out out) = (omega arith, omega arith)
+bounds-number (crossed p q o) = (omega arith, omega arith)
+
+pub job-number : {j : Job} {n : ℕ} → JobGiven j (refused n) → (3 ≤ n) × (n ≤ 6)
+job-number (bounds-refused g) = (bounds-number g .0, omega (arith, bounds-number g .1))
+job-number (duration-out g out) = (omega arith, omega arith)
+job-number (usage-out g p out) = (omega arith, omega arith)
 
 -- start bounds
-no-3 : {e l : ℤ} → BoundsGiven e l (Refused BoundOutOfRange) → (¬ InRange bounds e) ⊎ (¬ InRange bounds l)
-no-3 (bound-out out) = out
-
-no-4 : {e l : ℤ} → BoundsGiven e l (Refused BoundsCrossed) → InRange bounds e × InRange bounds l × (ltZ l e ≡ true)
-no-4 (crossed p q o) = (p, q, o)
-
 module _ (e l : ℤ) where
-  pub refusal-3 : (boundsChecked e l ≡ Refused BoundOutOfRange) ↔ ((¬ InRange bounds e) ⊎ (¬ InRange bounds l))
-  refusal-3 = (λ h. no-3 (bounds-exactly e l _ .0 h), λ out. bounds-exactly e l _ .1 (bound-out out))
+  pub bounds-3 : BoundsGiven e l (refused 3) ↔ ((¬ InRange bounds e) ⊎ (¬ InRange bounds l))
+  bounds-3 = (go, bound-out)
+    where
+      go : BoundsGiven e l (refused 3) → (¬ InRange bounds e) ⊎ (¬ InRange bounds l)
+      go (bound-out out) = out
 
-  pub refusal-4 : (boundsChecked e l ≡ Refused BoundsCrossed) ↔ (InRange bounds e × InRange bounds l × (ltZ l e ≡ true))
-  refusal-4 = (λ h. no-4 (bounds-exactly e l _ .0 h), λ f. bounds-exactly e l _ .1 (crossed (f .0) (f .1) (f .2)))
+  pub bounds-4 : BoundsGiven e l (refused 4) ↔ (InRange bounds e × InRange bounds l × (ltZ l e ≡ true))
+  bounds-4 = (go, λ f. crossed (f .0) (f .1) (f .2))
+    where
+      go : BoundsGiven e l (refused 4) → InRange bounds e × InRange bounds l × (ltZ l e ≡ true)
+      go (crossed p q o) = (p, q, o)
 
 -- a job: its start bounds first, and then its duration and its usage
-only-3-4 : {e l : ℤ} {why : Refusal} → BoundsGiven e l (Refused why) → numberOf why ≤ 4
-only-3-4 (bound-out out) = omega arith
-only-3-4 (crossed p q o) = omega arith
-
-no-3-4 : {j : Job} {why : Refusal} → numberOf why ≤ 4 → JobGiven j (Refused why) → BoundsGiven (j .earliest) (j .latest) (Refused why)
-no-3-4 le (bounds-refused g) = g
-no-3-4 le (duration-out g out) = absurd (omega arith)
-no-3-4 le (usage-out g p out) = absurd (omega arith)
-
-no-5 : {j : Job} → JobGiven j (Refused DurationOutOfRange) → BoundsGiven (j .earliest) (j .latest) Accepted × (¬ InRange durations (j .duration))
-no-5 (bounds-refused g) = absurd (omega (arith, only-3-4 g))
-no-5 (duration-out g out) = (g, out)
-
-no-6 : {j : Job} → JobGiven j (Refused UsageOutOfRange) → BoundsGiven (j .earliest) (j .latest) Accepted × InRange durations (j .duration) × (¬ InRange usages (j .usage))
-no-6 (bounds-refused g) = absurd (omega (arith, only-3-4 g))
-no-6 (usage-out g p out) = (g, p, out)
-
 module _ (j : Job) where
-  -- refusals 3 and 4 are its start bounds'
-  pub refusal-3-4 : (why : Refusal) → numberOf why ≤ 4 → (jobChecked j ≡ Refused why) ↔ (boundsChecked (j .earliest) (j .latest) ≡ Refused why)
-  refusal-3-4 why le =
-      (λ h. bounds-exactly _ _ _ .1 (no-3-4 le (job-exactly j _ .0 h)), λ h. job-exactly j _ .1 (bounds-refused (bounds-exactly _ _ _ .0 h)))
+  job-3-4 : (n : ℕ) → n ≤ 4 → JobGiven j (refused n) ↔ BoundsGiven (j .earliest) (j .latest) (refused n)
+  job-3-4 n le = (go le, bounds-refused)
+    where
+      go : {n : ℕ} → n ≤ 4 → JobGiven j (refused n) → BoundsGiven (j .earliest) (j .latest) (refused n)
+      go le (bounds-refused g) = g
+      go le (duration-out g out) = absurd (omega arith)
+      go le (usage-out g p out) = absurd (omega arith)
 
-  pub refusal-5 : (jobChecked j ≡ Refused DurationOutOfRange) ↔ ((boundsChecked (j .earliest) (j .latest) ≡ Accepted) × (¬ InRange durations (j .duration)))
-  refusal-5 = (
-    λ h. let f = no-5 (job-exactly j _ .0 h) in (bounds-exactly _ _ _ .1 (f .0), f .1),
-    λ f. job-exactly j _ .1 (duration-out (bounds-exactly _ _ _ .0 (f .0)) (f .1)),
-  )
+  pub job-3 : JobGiven j (refused 3) ↔ ((¬ InRange bounds (j .earliest)) ⊎ (¬ InRange bounds (j .latest)))
+  job-3 = Iff·trans (job-3-4 3 (omega arith)) (bounds-3 (j .earliest) (j .latest))
 
-  pub refusal-6 : (jobChecked j ≡ Refused UsageOutOfRange) ↔ ((boundsChecked (j .earliest) (j .latest) ≡ Accepted) × InRange durations (j .duration) × (¬ InRange usages (j .usage)))
-  refusal-6 = (
-    λ h. let f = no-6 (job-exactly j _ .0 h) in (bounds-exactly _ _ _ .1 (f .0), f .1, f .2),
-    λ f. job-exactly j _ .1 (usage-out (bounds-exactly _ _ _ .0 (f .0)) (f .1) (f .2)),
-  )
+  pub job-4 : JobGiven j (refused 4) ↔ (InRange bounds (j .earliest) × InRange bounds (j .latest) × (ltZ (j .latest) (j .earliest) ≡ true))
+  job-4 = Iff·trans (job-3-4 4 (omega arith)) (bounds-4 (j .earliest) (j .latest))
+
+  pub job-5 : JobGiven j (refused 5) ↔ (BoundsGiven (j .earliest) (j .latest) admitted × (¬ InRange durations (j .duration)))
+  job-5 = (go, λ f. duration-out (f .0) (f .1))
+    where
+      go : JobGiven j (refused 5) → BoundsGiven (j .earliest) (j .latest) admitted × (¬ InRange durations (j .duration))
+      go (bounds-refused g) = absurd (omega (arith, bounds-number g))
+      go (duration-out g out) = (g, out)
+
+  pub job-6 : JobGiven j (refused 6) ↔ (BoundsGiven (j .earliest) (j .latest) admitted × InRange durations (j .duration) × (¬ InRange usages (j .usage)))
+  job-6 = (go, λ f. usage-out (f .0) (f .1) (f .2))
+    where
+      go : JobGiven j (refused 6) → BoundsGiven (j .earliest) (j .latest) admitted × InRange durations (j .duration) × (¬ InRange usages (j .usage))
+      go (bounds-refused g) = absurd (omega (arith, bounds-number g))
+      go (usage-out g p out) = (g, p, out)

@@ -1,6 +1,6 @@
 -- Jobs are checked in input order: an accepted job leaves the answer to those behind it, and the first refusal is the answer.
 -- Assumes nothing.
-use mathlib.Core.Path.{_≡_, refl}
+use mathlib.Core.Path.{_≡_, refl, ap}
 use mathlib.Core.Bool.{Bool, true, false}
 use mathlib.Core.List.{List, [], _∷_}
 use mathlib.Core.Logic.{_⊎_, _↔_, inl, inr, ⊎-elim}
@@ -14,8 +14,11 @@ use Rattle.planner.specs.declared.Job.{Job}
 use Rattle.planner.specs.declared.Refusal.{Refusal}
 use Rattle.planner.specs.declared.Checked.{Checked}
 use Rattle.planner.specs.declared.Checked.the-variants.{Accepted, Refused}
+use Rattle.planner.specs.Refusals.{admitted, refused, verdict}
 use Rattle.planner.specs.Checks.{unless, _then_, jobChecked, jobsChecked}
-use Rattle.planner.specs.Given.{noJob, FirstRefused}
+use Rattle.planner.specs.Given.{JobGiven, noJob}
+use Rattle.planner.specs.Refused.{JobTaken, FirstOut}
+use Rattle.planner.proofs.Given.{refused-first, job-exactly, job-taken}
 
 -- the first n jobs of a list, from place i on
 module _ (list : List Job) (n i : ℕ) (all : n ≤ length list) where
@@ -41,9 +44,9 @@ pub then-accepted : (a b : Checked) → (a then b) ≡ Accepted → (a ≡ Accep
 then-accepted Accepted b h = (refl, h)
 then-accepted (Refused why) b h = let clash : _≡_ {A = ℕ} 0 1 = cc in absurd (omega arith)
 
-then-refused : {why : Refusal} (a b : Checked) → (a then b) ≡ Refused why → (a ≡ Refused why) ⊎ ((a ≡ Accepted) × (b ≡ Refused why))
-then-refused Accepted b h = inr (refl, h)
-then-refused (Refused other) b h = inl h
+refused-somewhere : {n : ℕ} (a b : Checked) → verdict (a then b) ≡ refused n → (verdict a ≡ refused n) ⊎ ((a ≡ Accepted) × (verdict b ≡ refused n))
+refused-somewhere Accepted b h = inr (refl, h)
+refused-somewhere (Refused why) b h = inl h
 
 -- jobs are accepted exactly when each of them is
 each : (js : List Job) → jobsChecked js ≡ Accepted → (k : ℕ) → k < length js → jobChecked (getD js k noJob) ≡ Accepted
@@ -60,30 +63,34 @@ whole (j ∷ js) all = rw (all 0 (omega arith)) (whole js (λ k lt. all (suc k) 
 pub jobs-accepted : (js : List Job) → (jobsChecked js ≡ Accepted) ↔ ((k : ℕ) → k < length js → jobChecked (getD js k noJob) ≡ Accepted)
 jobs-accepted js = (each js, whole js)
 
+-- the same in the words of the table
+pub jobs-taken : (js : List Job) → (jobsChecked js ≡ Accepted) ↔ ((k : ℕ) → k < length js → JobTaken js k)
+jobs-taken js = (λ h k lt. job-exactly _ _ .0 (ap verdict (each js h k lt)), λ all. whole js (λ k lt. job-taken (all k lt)))
+
 -- jobs are refused exactly as the first of them that is refused
-module _ {why : Refusal} where
-  behind : {j : Job} {js : List Job} → jobChecked j ≡ Accepted → FirstRefused js why → FirstRefused (j ∷ js) why
-  behind {j} {js} taken f = record { place = suc (f .place); inside = suc-le-suc (f .inside); refused = f .refused; before = go }
+module _ {n : ℕ} where
+  behind : {j : Job} {js : List Job} → JobGiven j admitted → FirstOut js n → FirstOut (j ∷ js) n
+  behind {j} {js} here f = record { place = suc (f .place); inside = suc-le-suc (f .inside); bad = f .bad; before = go }
     where
-      go : (k : ℕ) → k < suc (f .place) → jobChecked (getD (j ∷ js) k noJob) ≡ Accepted
-      go zero lt = taken
+      go : (k : ℕ) → k < suc (f .place) → JobTaken (j ∷ js) k
+      go zero lt = here
       go (suc k) lt = f .before k (le-of-suc-le-suc lt)
 
-  first : (js : List Job) → jobsChecked js ≡ Refused why → FirstRefused js why
+  first : (js : List Job) → verdict (jobsChecked js) ≡ refused n → FirstOut js n
   unfolding jobsChecked
   first [] h = let clash : _≡_ {A = ℕ} 0 1 = cc in absurd (omega arith)
   first (j ∷ js) h =
       ⊎-elim
-      (λ here. record { place = 0; inside = omega arith; refused = here; before = λ k lt. absurd (not-suc-le-zero lt) })
-      (λ later. behind (later .0) (first js (later .1)))
-      (then-refused (jobChecked j) (jobsChecked js) h)
+      (λ here. record { place = 0; inside = omega arith; bad = job-exactly j _ .0 here; before = λ k lt. absurd (not-suc-le-zero lt) })
+      (λ later. behind (job-exactly j _ .0 (ap verdict (later .0))) (first js (later .1)))
+      (refused-somewhere (jobChecked j) (jobsChecked js) h)
 
-  reached : (js : List Job) (n : ℕ) → n < length js → jobChecked (getD js n noJob) ≡ Refused why
-      → ((k : ℕ) → k < n → jobChecked (getD js k noJob) ≡ Accepted) → jobsChecked js ≡ Refused why
+  reached : (js : List Job) (i : ℕ) → i < length js → JobGiven (getD js i noJob) (refused n) → ((k : ℕ) → k < i → JobTaken js k) → verdict (jobsChecked js) ≡ refused n
   unfolding jobsChecked
-  reached [] n lt here before = absurd (not-suc-le-zero lt)
-  reached (j ∷ js) zero lt here before = rw here
-  reached (j ∷ js) (suc n) lt here before = rw (before 0 (omega arith)) (reached js n (le-of-suc-le-suc lt) here (λ k h. before (suc k) (suc-le-suc h)))
+  reached [] i lt here before = absurd (not-suc-le-zero lt)
+  reached (j ∷ js) zero lt here before = refused-first (jobChecked j) _ (job-exactly j _ .1 here)
+  reached (j ∷ js) (suc i) lt here before =
+      rw (job-taken (before 0 (omega arith))) (reached js i (le-of-suc-le-suc lt) here (λ k h. before (suc k) (suc-le-suc h)))
 
-  pub jobs-refused : (js : List Job) → (jobsChecked js ≡ Refused why) ↔ FirstRefused js why
-  jobs-refused js = (first js, λ f. reached js (f .place) (f .inside) (f .refused) (f .before))
+  pub jobs-refused : (js : List Job) → (verdict (jobsChecked js) ≡ refused n) ↔ FirstOut js n
+  jobs-refused js = (first js, λ f. reached js (f .place) (f .inside) (f .bad) (f .before))

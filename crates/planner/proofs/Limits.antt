@@ -22,6 +22,7 @@ use Rattle.sweep.specs.declared.Task.{Task}
 use Rattle.sweep.specs.declared.Tasks.{Tasks}
 use Rattle.sweep.proofs.Covered.{past-none}
 use Rattle.sweep.specs.Tasks.{noTask, tasksOf, tasksWith, taskAt, usageOf, runEnd, inPart, runs, Sweepable}
+use Rattle.planner.specs.Ranges.{lastEnd}
 use Rattle.planner.specs.Sound.{Limited, SoundTasks}
 use Rattle.planner.proofs.Known.{tasks-of}
 
@@ -33,8 +34,8 @@ module _ (ts : Tasks) (s : SoundTasks ts) where
       (λ ge. rw (past-none (tasksOf ts) i (omega (arith, s .held .counts))) none)
       (lt-or-le i (ts .count))
 
-  pub ends : (i : ℕ) → runEnd (taskAt (tasksOf ts) i) ≤ 3000000000
-  ends = by-id {P = λ (k : Task). runEnd k ≤ 3000000000} (omega arith) (λ k l. omega (arith, l))
+  pub ends : (i : ℕ) → runEnd (taskAt (tasksOf ts) i) ≤ lastEnd
+  ends = by-id {P = λ (k : Task). runEnd k ≤ lastEnd} (omega arith) (λ k l. omega (arith, l))
 
   pub sound-sweepable : Sweepable ts
   sound-sweepable =
@@ -58,14 +59,14 @@ module _ (ts : Tasks) (s : SoundTasks ts) where
 
   -- a row that is right for them ends before the last instant that a plan can touch
   pub row-low : (rows : List Row) → Right (runs (tasksOf ts)) (usageOf (tasksOf ts)) rows → (k : ℕ) → k < length rows
-      → (rowAt rows k .start < 3000000000) × (rowAt rows k .end < 3000000000)
+      → (rowAt rows k .start < lastEnd) × (rowAt rows k .end < lastEnd)
   row-low rows right k lt =
       let d = demanded (runs (tasksOf ts)) (usageOf (tasksOf ts)) (ts .count) rows right sound-few in
       let e = rowAt rows k .end in
-      let low : e < 3000000000 =
+      let low : e < lastEnd =
       ⊎-elim (λ small. small)
       (λ big. absurd (d .bare e (λ i. has-above _ _ e (omega (arith, ends i, big))) (record { place = k; there = record { one-of = lt; from = d .proper k lt; to = omega arith } })))
-      (lt-or-le e 3000000000) in
+      (lt-or-le e lastEnd) in
       (omega (arith, d .proper k lt, low), low)
 
 -- a task in the place of another

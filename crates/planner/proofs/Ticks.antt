@@ -11,51 +11,51 @@ use lib.IntN.{ℤ, pos, negsuc, negℤ, _+ℤ_, _-ℤ_, +ℤ-assoc, +ℤ-comm, +
 use lib.Signed.{leZ, ltZ, mag}
 use Rattle.time_table.proofs.Sums.{lt-or-le}
 use Rattle.time_table.proofs.Bits.{same-test}
-use Rattle.planner.specs.Ranges.{bounds}
+use Rattle.planner.specs.Ranges.{bounds, maxBound, maxDuration, lastEnd}
 use Rattle.planner.specs.Instants.{instant, tick}
 use Rattle.planner.proofs.Tests.{ltb-not, ltZ-not}
 
-pub tick-sum : (z : ℤ) → leZ (bounds .lo) z ≡ true → z +ℤ pos 1000000000 ≡ pos (tick z)
+pub tick-sum : (z : ℤ) → leZ (bounds .lo) z ≡ true → z +ℤ pos maxBound ≡ pos (tick z)
 unfolding tick
 tick-sum (pos n) low = refl
 tick-sum (negsuc n) low =
     let near : n ≤ 999999999 = leb-true n 999999999 low in
-    simp (le-ltb 1000000000 (suc n) (omega arith))
+    simp (le-ltb maxBound (suc n) (omega arith))
 
 pub instant-tick : (z : ℤ) → leZ (bounds .lo) z ≡ true → instant (tick z) ≡ z
 unfolding instant
-instant-tick z low = ap (λ (x : ℤ). x -ℤ pos 1000000000) (sym (tick-sum z low)) ∙ +ℤ-negℤ-cancel z (pos 1000000000)
+instant-tick z low = ap (λ (x : ℤ). x -ℤ pos maxBound) (sym (tick-sum z low)) ∙ +ℤ-negℤ-cancel z (pos maxBound)
 
 -- sums
 pub instant-sum : (t d : ℕ) → instant (t + d) ≡ instant t +ℤ pos d
 unfolding instant
 instant-sum t d =
-    +ℤ-assoc (pos t) (pos d) (negℤ (pos 1000000000))
-    ∙ ap (λ (x : ℤ). pos t +ℤ x) (+ℤ-comm (pos d) (negℤ (pos 1000000000)))
-    ∙ sym (+ℤ-assoc (pos t) (negℤ (pos 1000000000)) (pos d))
+    +ℤ-assoc (pos t) (pos d) (negℤ (pos maxBound))
+    ∙ ap (λ (x : ℤ). pos t +ℤ x) (+ℤ-comm (pos d) (negℤ (pos maxBound)))
+    ∙ sym (+ℤ-assoc (pos t) (negℤ (pos maxBound)) (pos d))
 
 -- an instant by its sign
-pub instant-low : (t : ℕ) → t < 1000000000 → instant t ≡ negsuc (1000000000 - suc t)
+pub instant-low : (t : ℕ) → t < maxBound → instant t ≡ negsuc (maxBound - suc t)
 unfolding instant
-instant-low t h = simp (lt-ltb t 1000000000 h)
+instant-low t h = simp (lt-ltb t maxBound h)
 
-pub instant-high : (t : ℕ) → 1000000000 ≤ t → instant t ≡ pos (t - 1000000000)
+pub instant-high : (t : ℕ) → maxBound ≤ t → instant t ≡ pos (t - maxBound)
 unfolding instant
-instant-high t h = simp (le-ltb t 1000000000 h)
+instant-high t h = simp (le-ltb t maxBound h)
 
 -- orders
 pub instant-order : (a b : ℕ) → leZ (instant a) (instant b) ≡ leb a b
 instant-order a b =
     ⊎-elim
     (λ p. ⊎-elim
-    (λ q. rw (instant-low a p, instant-low b q) (same-test (1000000000 - suc b) (1000000000 - suc a) a b (λ h. omega arith) (λ h. omega arith)))
+    (λ q. rw (instant-low a p, instant-low b q) (same-test (maxBound - suc b) (maxBound - suc a) a b (λ h. omega arith) (λ h. omega arith)))
     (λ q. rw (instant-low a p, instant-high b q) (sym (le-leb a b (omega arith))))
-    (lt-or-le b 1000000000))
+    (lt-or-le b maxBound))
     (λ p. ⊎-elim
     (λ q. rw (instant-high a p, instant-low b q) (sym (lt-leb a b (omega arith))))
-    (λ q. rw (instant-high a p, instant-high b q) (same-test (a - 1000000000) (b - 1000000000) a b (λ h. omega arith) (λ h. omega arith)))
-    (lt-or-le b 1000000000))
-    (lt-or-le a 1000000000)
+    (λ q. rw (instant-high a p, instant-high b q) (same-test (a - maxBound) (b - maxBound) a b (λ h. omega arith) (λ h. omega arith)))
+    (lt-or-le b maxBound))
+    (lt-or-le a maxBound)
 
 pub le-instant : (a b : ℕ) → a ≤ b → leZ (instant a) (instant b) ≡ true
 le-instant a b h = instant-order a b ∙ le-leb a b h
@@ -70,6 +70,6 @@ pub tick-order : (a b : ℤ) → leZ (bounds .lo) a ≡ true → leZ (bounds .lo
 tick-order a b p q = sym (instant-order (tick a) (tick b)) ∙ (λ i. leZ (instant-tick a p i) (instant-tick b q i))
 
 -- the instants that a plan can touch are small
-pub instant-small : (t : ℕ) → t < 3000000000 → mag (instant t) < 2000000000
+pub instant-small : (t : ℕ) → t < lastEnd → mag (instant t) < maxBound + maxDuration
 instant-small t h =
-    ⊎-elim (λ p. rw (instant-low t p) (omega arith)) (λ p. rw (instant-high t p) (omega arith)) (lt-or-le t 1000000000)
+    ⊎-elim (λ p. rw (instant-low t p) (omega arith)) (λ p. rw (instant-high t p) (omega arith)) (lt-or-le t maxBound)

@@ -28,6 +28,7 @@ use Rattle.sweep.specs.Tasks.{noTask, tasksOf, tasksWith, taskAt, usageOf, part
 use Rattle.planner.specs.declared.Plan.{Plan}
 use Rattle.planner.specs.declared.Refusal.the-variants.{UnknownTask, TooManyRows}
 use Rattle.planner.specs.declared.Checked.{Checked}
+use Rattle.planner.specs.Ranges.{lastStart}
 use Rattle.planner.specs.Sound.{Limited, SoundTasks, Live, Sound}
 use Rattle.planner.specs.Checks.{unless, _then_, boundsChecked}
 use Rattle.planner.specs.Answers.{livePlan, refusedUpdate}
@@ -36,7 +37,7 @@ use Rattle.planner.proofs.Limits.{ends, sound-within, replaced-sound, r
 use Rattle.planner.proofs.Known.{tasks-of}
 use Rattle.planner.proofs.Tests.{by-test}
 
-module _ (plan : Plan) (s : Sound plan) (i e l : ℕ) (lt : i < plan .tasks .count) (order : e ≤ l) (top : l ≤ 2000000000) where
+module _ (plan : Plan) (s : Sound plan) (i e l : ℕ) (lt : i < plan .tasks .count) (order : e ≤ l) (top : l ≤ lastStart) where
   abbrev old : Task
   old = taskAt (tasksOf (plan .tasks)) i
 
@@ -105,7 +106,7 @@ module _ (plan : Plan) (i e l : ℕ) where
   live-with-room room = ap (λ (b : Bool). cond b (refusedUpdate plan TooManyRows) (livePlan (plan .capacity) (set (tasksOf (plan .tasks)) i changed) rows-after)) room
 
 -- the tasks as the code has them, with k stored in the place of the task i
-module _ (plan : Plan) (s : Sound plan) (i e l : ℕ) (lt : i < plan .tasks .count) (order : e ≤ l) (top : l ≤ 2000000000) (k : Task) (q : k ≡ new plan s i e l lt order top) where
+module _ (plan : Plan) (s : Sound plan) (i e l : ℕ) (lt : i < plan .tasks .count) (order : e ≤ l) (top : l ≤ lastStart) (k : Task) (q : k ≡ new plan s i e l lt order top) where
   abbrev pub stored : Tasks
   stored = record { list = set (plan .tasks .list) i k; count = plan .tasks .count }
 

@@ -18,32 +18,29 @@ use Rattle.sweep.specs.Tasks.{tasksOf, taskAt, partOf}
 use Rattle.planner.specs.declared.Job.{Job}
 use Rattle.planner.specs.declared.Jobs.{Jobs}
 use Rattle.planner.specs.declared.Plan.{Plan}
-use Rattle.planner.specs.declared.Refusal.{Refusal}
-use Rattle.planner.specs.declared.Refusal.the-variants.{TooManyJobs, CapacityOutOfRange, UnknownTask, TooManyRows, Stale}
-use Rattle.planner.specs.declared.Checked.{Checked}
-use Rattle.planner.specs.declared.Checked.the-variants.{Accepted, Refused}
 use Rattle.planner.specs.declared.Answer.{Answer}
 use Rattle.planner.specs.declared.FirstFit.{FirstFit}
+use Rattle.planner.specs.Refusals.{numberOf, Verdict, admitted, refused}
 use Rattle.planner.specs.Ranges.{InRange, capacities}
 use Rattle.planner.specs.Instants.{tick, amount}
 use Rattle.planner.specs.Given.{BoundsGiven, JobGiven, noJob}
 use Rattle.planner.specs.Loads.{jobsOf}
 use Rattle.planner.specs.Updates.{bounded}
 
--- whether an answer is a refusal, and why
-abbrev pub judged : Answer → Checked
-judged Answer.Fits = Accepted
-judged Answer.Overloaded = Accepted
-judged (Answer.Refused why) = Refused why
+-- whether an answer is a refusal, and its number
+abbrev pub judged : Answer → Verdict
+judged Answer.Fits = admitted
+judged Answer.Overloaded = admitted
+judged (Answer.Refused why) = refused (numberOf why)
 
-abbrev pub fitJudged : FirstFit → Checked
-fitJudged (FirstFit.Start z) = Accepted
-fitJudged FirstFit.Nowhere = Accepted
-fitJudged (FirstFit.Refused why) = Refused why
+abbrev pub fitJudged : FirstFit → Verdict
+fitJudged (FirstFit.Start z) = admitted
+fitJudged FirstFit.Nowhere = admitted
+fitJudged (FirstFit.Refused why) = refused (numberOf why)
 
 -- the job at the place k is accepted
 abbrev pub JobTaken : List Job → ℕ → Type 0
-JobTaken js k = JobGiven (getD js k noJob) Accepted
+JobTaken js k = JobGiven (getD js k noJob) admitted
 
 -- the first job in input order that is not accepted, and what is bad about it
 pub record FirstJob (Bad : Job → Type 0) (js : List Job) : Type 0 where
@@ -52,16 +49,16 @@ pub record FirstJob (Bad : Job → Type 0) (js : List Job) : Type 0 where
   pub bad : Bad (getD js place noJob)
   pub before : (k : ℕ) → k < place → JobTaken js k
 
--- the same, by the reason why it is refused
-abbrev pub FirstOut : List Job → Refusal → Type 0
-FirstOut js why = FirstJob (λ (j : Job). JobGiven j (Refused why)) js
+-- the same, by the number of its refusal
+abbrev pub FirstOut : List Job → ℕ → Type 0
+FirstOut js n = FirstJob (λ (j : Job). JobGiven j (refused n)) js
 
 -- a load: 1, 2, then job by job in input order 3, 4, 5, 6
-pub data LoadGiven (jobs : Jobs) (capacity : ℤ) : Checked → Type 0 where
-  too-many : 32 < jobs .count → LoadGiven jobs capacity (Refused TooManyJobs)
-  bad-capacity : jobs .count ≤ 32 → ¬ InRange capacities capacity → LoadGiven jobs capacity (Refused CapacityOutOfRange)
-  bad-job : {why : Refusal} → jobs .count ≤ 32 → InRange capacities capacity → FirstOut (jobsOf jobs) why → LoadGiven jobs capacity (Refused why)
-  load-in : jobs .count ≤ 32 → InRange capacities capacity → ((k : ℕ) → k < length (jobsOf jobs) → JobTaken (jobsOf jobs) k) → LoadGiven jobs capacity Accepted
+pub data LoadGiven (jobs : Jobs) (capacity : ℤ) : Verdict → Type 0 where
+  too-many : 32 < jobs .count → LoadGiven jobs capacity (refused 1)
+  bad-capacity : jobs .count ≤ 32 → ¬ InRange capacities capacity → LoadGiven jobs capacity (refused 2)
+  bad-job : {n : ℕ} → jobs .count ≤ 32 → InRange capacities capacity → FirstOut (jobsOf jobs) n → LoadGiven jobs capacity (refused n)
+  load-in : jobs .count ≤ 32 → InRange capacities capacity → ((k : ℕ) → k < length (jobsOf jobs) → JobTaken (jobsOf jobs) k) → LoadGiven jobs capacity admitted
 
 -- a task has this id, or none has: the ids are the numbers from 0 up to but without the number of tasks
 pub record HasTask (plan : Plan) (id : ℤ) : Type 0 where
@@ -95,21 +92,21 @@ pub record OverAfter (es : List Edit) (rows : List Row) : Type 0 where
   pub over : 128 < length (editing (take (suc place) es) rows)
 
 -- an update: 7, 3, 4, 8
-pub data UpdateGiven (plan : Plan) (id earliest latest : ℤ) : Checked → Type 0 where
-  not-there : NoTask plan id → UpdateGiven plan id earliest latest (Refused UnknownTask)
-  bad-bounds : {why : Refusal} → HasTask plan id → BoundsGiven earliest latest (Refused why) → UpdateGiven plan id earliest latest (Refused why)
-  too-long : HasTask plan id → BoundsGiven earliest latest Accepted → plan .live ≡ true
-      → OverAfter (editsBy plan id earliest latest) (rowsOf (plan .table)) → UpdateGiven plan id earliest latest (Refused TooManyRows)
-  update-in : HasTask plan id → BoundsGiven earliest latest Accepted
-      → (plan .live ≡ true → ¬ OverAfter (editsBy plan id earliest latest) (rowsOf (plan .table))) → UpdateGiven plan id earliest latest Accepted
+pub data UpdateGiven (plan : Plan) (id earliest latest : ℤ) : Verdict → Type 0 where
+  not-there : NoTask plan id → UpdateGiven plan id earliest latest (refused 7)
+  bad-bounds : {n : ℕ} → HasTask plan id → BoundsGiven earliest latest (refused n) → UpdateGiven plan id earliest latest (refused n)
+  too-long : HasTask plan id → BoundsGiven earliest latest admitted → plan .live ≡ true
+      → OverAfter (editsBy plan id earliest latest) (rowsOf (plan .table)) → UpdateGiven plan id earliest latest (refused 8)
+  update-in : HasTask plan id → BoundsGiven earliest latest admitted
+      → (plan .live ≡ true → ¬ OverAfter (editsBy plan id earliest latest) (rowsOf (plan .table))) → UpdateGiven plan id earliest latest admitted
 
 -- a question for the first fit: 7, 9
-pub data FitGiven (plan : Plan) (id : ℤ) : Checked → Type 0 where
-  nobody : NoTask plan id → FitGiven plan id (Refused UnknownTask)
-  fit-stale : HasTask plan id → plan .live ≡ false → FitGiven plan id (Refused Stale)
-  fit-in : HasTask plan id → plan .live ≡ true → FitGiven plan id Accepted
+pub data FitGiven (plan : Plan) (id : ℤ) : Verdict → Type 0 where
+  nobody : NoTask plan id → FitGiven plan id (refused 7)
+  fit-stale : HasTask plan id → plan .live ≡ false → FitGiven plan id (refused 9)
+  fit-in : HasTask plan id → plan .live ≡ true → FitGiven plan id admitted
 
 -- a question for the rows: 9
-pub data RowsGiven (plan : Plan) : Checked → Type 0 where
-  rows-stale : plan .live ≡ false → RowsGiven plan (Refused Stale)
-  rows-in : plan .live ≡ true → RowsGiven plan Accepted
+pub data RowsGiven (plan : Plan) : Verdict → Type 0 where
+  rows-stale : plan .live ≡ false → RowsGiven plan (refused 9)
+  rows-in : plan .live ≡ true → RowsGiven plan admitted

@@ -11,15 +11,16 @@ use Rattle.sweep.specs.declared.Task.{Task}
 use Rattle.sweep.specs.declared.Tasks.{Tasks}
 use Rattle.sweep.specs.Tasks.{tasksOf, heldTasks, taskAt, usageOf, runs}
 use Rattle.planner.specs.declared.Plan.{Plan}
+use Rattle.planner.specs.Ranges.{maxDuration, maxUsage, maxCapacity, lastStart}
 
 -- a task's numbers are within document 01's limits, in ticks, and it is none that is dropped
 pub record Limited (k : Task) : Type 0 where
   pub ordered : k .earliest ≤ k .latest
-  pub bound : k .latest ≤ 2000000000
+  pub bound : k .latest ≤ lastStart
   pub long : 0 < k .duration
-  pub duration : k .duration ≤ 1000000000
+  pub duration : k .duration ≤ maxDuration
   pub draws : 0 < k .usage
-  pub usage : k .usage ≤ 1000000
+  pub usage : k .usage ≤ maxUsage
 
 pub record SoundTasks (ts : Tasks) : Type 0 where
   pub held : heldTasks ts
@@ -32,6 +33,6 @@ pub record Live (ts : Tasks) (t : Table) : Type 0 where
 
 pub record Sound (plan : Plan) : Type 0 where
   pub tasks : SoundTasks (plan .tasks)
-  pub capacity : plan .capacity ≤ 1000000000
+  pub capacity : plan .capacity ≤ maxCapacity
   pub live : plan .live ≡ true → Live (plan .tasks) (plan .table)
   pub stale : plan .live ≡ false → plan .table ≡ tableOf []

@@ -6,7 +6,7 @@ ghost use Prim.Native.Nat.{_≤_, _<_};
 ghost use lib.IntN.{pos};
 ghost use lib.Signed.{leZ};
 ghost use lib.ListN.{take};
-ghost use Rattle.planner.specs.Ranges.{inRange, InRange, bounds};
+ghost use Rattle.planner.specs.Ranges.{inRange, InRange, bounds, lastEnd};
 ghost use Rattle.planner.specs.Instants.{instant, tick, amount};
 ghost use Rattle.planner.specs.Checks.{boundsChecked, jobChecked, jobsChecked, capacityChecked};
 ghost use Rattle.planner.specs.Updates.{known};
@@ -34,7 +34,7 @@ pub(crate) fn amount_of(x: i32) -> u32
 
 // The instant of a tick.
 pub(crate) fn instant_of(tick: u32) -> i32
-    requires { ⌜ tick < 3000000000 ⌝ }
+    requires { ⌜ tick < lastEnd ⌝ }
     ensures { λ r. ⌜ r ≡ instant tick ⌝ }
 {
     ((tick as i64) - (Plan::BOUND as i64)) as i32

@@ -13,6 +13,7 @@ ghost use Rattle.planner.specs.Refusals.{numberOf};
 ghost use Rattle.planner.specs.Kept.{jobsWith, keeping};
 use sweep::Tasks;
 use sweep::util::Placed;
+use time_table::Row;
 use time_table::Table;
 
 // A plan: the time-table, the tasks by id, the capacity, and whether the table is live or stale. A
@@ -30,6 +31,8 @@ pub struct Plan {
 impl Plan {
     // At most so many jobs in a load.
     pub const JOBS: usize = 32;
+    // At most so many rows in a table.
+    pub const ROWS: usize = Table::ROWS;
     // Start bounds are from -BOUND to BOUND.
     pub const BOUND: i32 = 1000000000;
     // Durations, usages and capacities are from 0 to these.
@@ -50,7 +53,7 @@ pub struct Job {
 
 // The jobs of a load, in `list` up to `count`.
 pub struct Jobs {
-    pub list: [Job; 32],
+    pub list: [Job; Plan::JOBS],
     pub count: usize,
 }
 
@@ -66,7 +69,7 @@ impl Jobs {
             usage: 0,
         };
         Jobs {
-            list: [none; 32],
+            list: [none; Plan::JOBS],
             count: 0,
         }
     }
@@ -93,8 +96,13 @@ pub struct RowRecord {
     pub start: i32,
     pub end: i32,
     pub height: u32,
-    pub ids: [u8; 32],
+    pub ids: [u8; RowRecord::IDS],
     pub count: usize,
+}
+
+impl RowRecord {
+    // A row lists at most so many ids.
+    pub const IDS: usize = Row::IDS;
 }
 
 // Why a call is refused.
@@ -158,7 +166,7 @@ pub struct Loaded {
     pub plan: Plan,
     pub answer: Answer,
     pub row: RowRecord,
-    pub placed: [Placed; 32],
+    pub placed: [Placed; Plan::JOBS],
 }
 
 // What a question for the first fit finds.
@@ -170,7 +178,7 @@ pub enum FirstFit {
 
 // The rows of a live table, in `rows` up to `count`; or a refusal and no rows.
 pub struct Rows {
-    pub rows: [RowRecord; 128],
+    pub rows: [RowRecord; Plan::ROWS],
     pub count: usize,
     pub answer: Checked,
 }

@@ -1,7 +1,6 @@
 // A load: the checks, the jobs in ticks, the tasks made of them and the sweep.
 ghost use mathlib.Core.Path.{_≡_};
 ghost use mathlib.Core.List.{map};
-ghost use mathlib.Core.Bool.{true};
 ghost use Rattle.sweep.specs.Tasks.{tasksWith};
 ghost use Rattle.planner.specs.declared.Checked.the-variants.{Accepted};
 ghost use Rattle.planner.specs.Checks.{jobChecked, capacityChecked};
@@ -95,7 +94,7 @@ pub(crate) fn refused_load(plan: Plan, why: Refusal) -> Loaded
         plan,
         answer: Answer::Refused(why),
         row: records::no_record(),
-        placed: [dropped; 32],
+        placed: [dropped; Plan::JOBS],
     }
 }
 

@@ -2,6 +2,7 @@
 ghost use mathlib.Core.Path.{_≡_};
 ghost use Prim.Native.Nat.{_≤_};
 ghost use Rattle.sweep.specs.Tasks.{tasksOf};
+ghost use Rattle.planner.specs.Ranges.{maxCapacity};
 ghost use Rattle.planner.specs.Sound.{Sound, SoundTasks};
 ghost use Rattle.planner.specs.Answers.{freshPlan, sweptPlan};
 use crate::Answer;
@@ -29,7 +30,7 @@ impl Plan {
 
 // The answer and the plan where these tasks are swept.
 pub(crate) fn swept_plan(capacity: u32, tasks: Tasks) -> Updated
-    requires { ⌜ SoundTasks tasks × (capacity ≤ 1000000000) ⌝ }
+    requires { ⌜ SoundTasks tasks × (capacity ≤ maxCapacity) ⌝ }
     ensures { λ r. ⌜ r ≡ sweptPlan capacity (tasksOf tasks) ⌝ }
     ensures { λ r. ⌜ Sound (r .plan) ⌝ }
 {

@@ -1,6 +1,7 @@
 // What a plan is asked: the first fit of a task, and the rows.
 ghost use mathlib.Core.Path.{_≡_};
 ghost use Prim.Native.Nat.{_<_};
+ghost use Rattle.planner.specs.Ranges.{lastEnd};
 ghost use Rattle.planner.specs.Sound.{Sound};
 ghost use Rattle.planner.specs.Questions.{startOf, fitOf, rowsShown};
 use crate::Checked;
@@ -16,7 +17,7 @@ use fit::first_fit;
 
 // The answer where a question for the first fit is not refused.
 pub(crate) fn start_of(fit: Fit) -> FirstFit
-    requires { ⌜ fit .start < 3000000000 ⌝ }
+    requires { ⌜ fit .start < lastEnd ⌝ }
     ensures { λ r. ⌜ r ≡ startOf fit ⌝ }
 {
     if fit.found {
@@ -55,7 +56,7 @@ impl Plan {
         ensures { λ r. ⌜ r ≡ rowsShown self ⌝ }
     {
         let none = records::no_record();
-        let mut rows = [none; 128];
+        let mut rows = [none; Plan::ROWS];
         if !self.live {
             return Rows {
                 rows,

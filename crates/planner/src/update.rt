@@ -2,6 +2,7 @@
 ghost use mathlib.Core.Path.{_≡_};
 ghost use mathlib.Core.Bool.{true, false};
 ghost use Prim.Native.Nat.{_≤_, _<_};
+ghost use Rattle.planner.specs.Ranges.{lastStart};
 ghost use Rattle.planner.specs.Sound.{Sound};
 ghost use Rattle.planner.specs.Answers.{refusedUpdate};
 ghost use Rattle.planner.specs.Updates.{bounded, acceptedUpdate, updated};
@@ -45,7 +46,7 @@ pub(crate) fn rebounded(task: Task, earliest: u32, latest: u32) -> Task
 // exit, since each further one would copy the plan once more, and the list of tasks is a variable of its
 // own, since to look a task up in the struct would copy it.
 pub(crate) fn live_update(plan: Plan, id: usize, earliest: u32, latest: u32) -> Updated
-    requires { ⌜ Sound plan × (plan .live ≡ true) × (id < plan .tasks .count) × (earliest ≤ latest) × (latest ≤ 2000000000) ⌝ }
+    requires { ⌜ Sound plan × (plan .live ≡ true) × (id < plan .tasks .count) × (earliest ≤ latest) × (latest ≤ lastStart) ⌝ }
     ensures { λ r. ⌜ r ≡ acceptedUpdate plan id earliest latest ⌝ }
     ensures { λ r. ⌜ Sound (r .plan) ⌝ }
 {
@@ -87,7 +88,7 @@ pub(crate) fn live_update(plan: Plan, id: usize, earliest: u32, latest: u32) -> 
 
 // An update of a stale plan that is accepted: the tasks are swept again.
 pub(crate) fn stale_update(plan: Plan, id: usize, earliest: u32, latest: u32) -> Updated
-    requires { ⌜ Sound plan × (plan .live ≡ false) × (id < plan .tasks .count) × (earliest ≤ latest) × (latest ≤ 2000000000) ⌝ }
+    requires { ⌜ Sound plan × (plan .live ≡ false) × (id < plan .tasks .count) × (earliest ≤ latest) × (latest ≤ lastStart) ⌝ }
     ensures { λ r. ⌜ r ≡ acceptedUpdate plan id earliest latest ⌝ }
     ensures { λ r. ⌜ Sound (r .plan) ⌝ }
 {

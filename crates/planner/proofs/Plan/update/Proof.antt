@@ -6,6 +6,7 @@ use Prim.Native.Nat.{_≤_, _<_}
 use borrow.Author.Tests.{not-true, not-false}
 use mir.Facts.{toZ-ofZ}
 use Rattle.planner.specs.declared.Checked.the-variants.{Accepted}
+use Rattle.planner.specs.Ranges.{lastStart}
 use Rattle.planner.specs.Instants.{tick, amount}
 use Rattle.planner.specs.Checks.{boundsChecked}
 use Rattle.planner.specs.declared.Updated.{Updated}
@@ -95,7 +96,7 @@ module _ (c : tie.After-tick-of2) where
   abbrev start : tie.Start
   start = told .before .before .before .before .before
 
-  inside : (c .before .before .amount-of .result < start .args .self .tasks .count) × (c .before .tick-of .result ≤ c .tick-of2 .result) × (c .tick-of2 .result ≤ 2000000000)
+  inside : (c .before .before .amount-of .result < start .args .self .tasks .count) × (c .before .tick-of .result ≤ c .tick-of2 .result) × (c .tick-of2 .result ≤ lastStart)
   inside =
       let low = known-true (start .args .self .tasks .count) (start .args .id) (is-true (told .before .before)) .1 in
       (omega (arith, place c), omega (arith, first c, last c, bounds told .order), omega (arith, last c, bounds told .top))

@@ -7,15 +7,16 @@ use lib.IntN.{ℤ, pos, _-ℤ_}
 use mir.Syntax.{w64}
 use mir.Val.{toZ, ofZ}
 use mir.Facts.{toZ-ofZ}
+use Rattle.planner.specs.Ranges.{maxBound}
 use Rattle.planner.specs.Instants.{instant}
 use Rattle.planner.proofs.Ticks.{instant-small}
 use Rattle.planner.proofs.border.instant_of.Statement.{statement}
 use Rattle.planner.proofs.border.instant_of.Tie as tie
 
 module _ (c : tie.Start) where
-  difference : toZ w64 (c .args .tick) -ℤ pos 1000000000 ≡ instant (c .args .tick)
+  difference : toZ w64 (c .args .tick) -ℤ pos maxBound ≡ instant (c .args .tick)
   unfolding instant
-  difference = ap (λ (z : ℤ). z -ℤ pos 1000000000) (toZ-ofZ {w = w64} {z = pos (c .args .tick)} (record { sfits = omega arith }))
+  difference = ap (λ (z : ℤ). z -ℤ pos maxBound) (toZ-ofZ {w = w64} {z = pos (c .args .tick)} (record { sfits = omega arith }))
 
 cast-result : tie.Need-cast-result
 cast-result c = search needs
@@ -26,7 +27,7 @@ cast-result-2 c = search needs
 sub-result : tie.Need-sub-result
 sub-result c = rw (difference c) (record { sfits = omega (arith, instant-small (c .args .tick) (c .pre)) })
 
-read : (c : tie.Start) → toZ w64 (ofZ w64 (toZ w64 (c .args .tick) -ℤ pos 1000000000)) ≡ instant (c .args .tick)
+read : (c : tie.Start) → toZ w64 (ofZ w64 (toZ w64 (c .args .tick) -ℤ pos maxBound)) ≡ instant (c .args .tick)
 read c = toZ-ofZ (sub-result c) ∙ difference c
 
 cast-result-3 : tie.Need-cast-result-3

@@ -6,6 +6,7 @@ use lib.IntN.{ℤ, pos, natAbs, _+ℤ_}
 use mir.Syntax.{w32}
 use mir.Val.{toZ, ofZ}
 use mir.Facts.{toZ-ofZ}
+use Rattle.planner.specs.Ranges.{maxBound}
 use Rattle.planner.specs.Instants.{tick}
 use Rattle.planner.proofs.Ticks.{tick-sum}
 use Rattle.planner.proofs.Accepted.{tick-top}
@@ -13,8 +14,8 @@ use Rattle.planner.proofs.border.tick_of.Statement.{statement}
 use Rattle.planner.proofs.border.tick_of.Tie as tie
 
 module _ (c : tie.Start) where
-  sum : toZ w32 (ofZ w32 (c .args .bound)) +ℤ pos 1000000000 ≡ pos (tick (c .args .bound))
-  sum = ap (λ (z : ℤ). z +ℤ pos 1000000000) (toZ-ofZ (c .fits .bound)) ∙ tick-sum (c .args .bound) (c .pre .low)
+  sum : toZ w32 (ofZ w32 (c .args .bound)) +ℤ pos maxBound ≡ pos (tick (c .args .bound))
+  sum = ap (λ (z : ℤ). z +ℤ pos maxBound) (toZ-ofZ (c .fits .bound)) ∙ tick-sum (c .args .bound) (c .pre .low)
 
 add-result : tie.Need-add-result
 add-result c = rw (sum c) (record { sfits = omega (arith, tick-top (c .pre)) })
