@@ -16,9 +16,9 @@ use Rattle.sweep.specs.declared.Task.{Task}
 use Rattle.sweep.specs.Tasks.{usageOf}
 use Rattle.sweep.specs.Ordering.{In, here, there}
 use Rattle.sweep.specs.Sweep.{idsAt, cuts, laid, rowsFrom, rowsBy, sweep}
-use Rattle.sweep.proofs.Cuts.{Asc, nil, cons, asc-low, asc-head, asc-tail, cuts-asc, cuts-length}
+use Rattle.sweep.proofs.SweepCuts.{Asc, nil, cons, asc-low, asc-head, asc-tail, cuts-asc, cuts-length}
 use Rattle.sweep.proofs.Covered.{ids-between, ids-before, ids-after, cut-differs}
-use Rattle.sweep.proofs.Runs.{Run, Runs, done, more}
+use Rattle.sweep.proofs.MaximalRuns.{Run, Runs, done, more}
 
 module _ (ts : List Task) where
   -- the runs of the tasks, from an instant on
