@@ -3,9 +3,9 @@ pub mod Sorting
 pub mod InsertionLoop
 pub mod MaximalRuns
 pub mod SweepCuts
-pub mod Covered
+pub mod CoveringTasks
 pub mod SweepRows
-pub mod Created
+pub mod JobOrder
 pub mod Placed
 pub mod Sentence
 pub mod Right

@@ -19,7 +19,7 @@ use Rattle.sweep.specs.Tasks.{taskAt, usageOf, runEnd, runs}
 use Rattle.sweep.specs.Sweep.{idsAt, cuts, sweep}
 use Rattle.sweep.proofs.MaximalRuns.{Run, done, more}
 use Rattle.sweep.proofs.SweepCuts.{cuts-of}
-use Rattle.sweep.proofs.Covered.{ids-occur, ids-few, ids-after}
+use Rattle.sweep.proofs.CoveringTasks.{ids-occur, ids-few, ids-after}
 use Rattle.sweep.proofs.SweepRows.{OurRuns, sweep-runs}
 
 module _ (ts : List Task) where

@@ -14,10 +14,10 @@ use Rattle.time_table.proofs.Sums.{lt-or-le}
 use Rattle.time_table.proofs.Totals.{tasks-rowOf}
 use Rattle.sweep.specs.declared.Task.{Task}
 use Rattle.sweep.specs.Tasks.{usageOf}
-use Rattle.sweep.specs.Ordering.{In, here, there}
+use Rattle.sweep.specs.Sorting.{In, here, there}
 use Rattle.sweep.specs.Sweep.{idsAt, cuts, laid, rowsFrom, rowsBy, sweep}
 use Rattle.sweep.proofs.SweepCuts.{Asc, nil, cons, asc-low, asc-head, asc-tail, cuts-asc, cuts-length}
-use Rattle.sweep.proofs.Covered.{ids-between, ids-before, ids-after, cut-differs}
+use Rattle.sweep.proofs.CoveringTasks.{ids-between, ids-before, ids-after, cut-differs}
 use Rattle.sweep.proofs.MaximalRuns.{Run, Runs, done, more}
 
 module _ (ts : List Task) where

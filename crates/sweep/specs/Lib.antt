@@ -1,5 +1,5 @@
 pub mod Tasks
-pub mod Ordering
+pub mod Sorting
 pub mod Events
 pub mod Profile
 pub mod Sweep

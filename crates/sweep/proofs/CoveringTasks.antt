@@ -12,7 +12,7 @@ use Rattle.time_table.specs.Meaning.{has, occurs}
 use Rattle.time_table.proofs.Sums.{has-in, has-below, has-above, has-none, lt-or-le}
 use Rattle.sweep.specs.declared.Task.{Task}
 use Rattle.sweep.specs.Tasks.{noTask, taskAt, latestOf, runEnd, inPart, runs}
-use Rattle.sweep.specs.Ordering.{ordered, InTurn, In, Sorted}
+use Rattle.sweep.specs.Sorting.{ordered, InTurn, In, Sorted}
 use Rattle.sweep.specs.Sweep.{idsAt, cuts}
 use Rattle.sweep.proofs.Sorting.{ordered-in, ordered-out, ordered-length, ordered-sorted, sorted-unique, by-key}
 use Rattle.sweep.proofs.SweepCuts.{Full, full-or, cuts-both, CutOf, cuts-of}
