@@ -7,6 +7,7 @@ pub mod CoveringTasks
 pub mod SweepRows
 pub mod JobOrder
 pub mod Placed
+pub mod JobsSentence
 pub mod Sentence
 pub mod Right
 pub mod Outcome

@@ -5,3 +5,4 @@ pub mod Profile
 pub mod Sweep
 pub mod Sentence
 pub mod Created
+pub mod JobsSentence
