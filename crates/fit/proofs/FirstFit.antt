@@ -16,7 +16,7 @@ use Rattle.fit.specs.declared.Asked.{Asked}
 use Rattle.fit.specs.declared.Fit.{Fit}
 use Rattle.fit.specs.Fits.{seen, Fits, IsFit, IsFirst, NoFit, IsFirstFit}
 use Rattle.fit.specs.FirstFit.{moved, settled, noneFound, firstFit}
-use Rattle.fit.proofs.Candidate.{moved-after, moved-before, moved-under, moved-behind, by-row, settled-grows, settled-before, answer-found, answer-none, over-none, room-some}
+use Rattle.fit.proofs.CandidateStart.{moved-after, moved-before, moved-under, moved-behind, by-row, settled-grows, settled-before, answer-found, answer-none, over-none, room-some}
 
 -- the two kinds of answer
 none-is : {rows : List Row} {capacity : ℕ} {asked : Asked} → NoFit rows capacity asked → IsFirstFit rows capacity asked noneFound

@@ -1,3 +1,2 @@
-pub mod Candidate
-pub mod Pass
+pub mod CandidateStart
 pub mod FirstFit

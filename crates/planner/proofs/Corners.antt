@@ -8,7 +8,7 @@ use Rattle.time_table.specs.Overload.{conflictIn}
 use Rattle.time_table.specs.Adjustments.{stretch, apart, leftOf}
 use Rattle.time_table.specs.Insertion.{insertion}
 use Rattle.time_table.specs.Update.{after, overAfter}
-use Rattle.sweep.specs.Ordering.{insertBefore, ordered}
+use Rattle.sweep.specs.Sorting.{insertBefore, ordered}
 use Rattle.sweep.specs.Sweep.{idsAt, insertCut, cutsBelow, cuts, laid, rowsFrom, rowsBy, sweep}
 use Rattle.sweep.specs.Created.{keeps, inOrder, created}
 use Rattle.fit.specs.FirstFit.{moved, settled, answer, firstFit}

@@ -9,7 +9,7 @@ use lib.ListN.{length, getD, set, length-map}
 use Rattle.sweep.specs.declared.Task.{Task}
 use Rattle.sweep.specs.Tasks.{noTask, taskAt}
 use Rattle.sweep.specs.Created.{inOrder, created}
-use Rattle.sweep.proofs.Created.{in-order-low}
+use Rattle.sweep.proofs.JobOrder.{in-order-low}
 use Rattle.sweep.proofs.Placed.{get-map}
 use Rattle.planner.specs.declared.Job.{Job}
 use Rattle.planner.specs.declared.Checked.the-variants.{Accepted}

@@ -20,7 +20,7 @@ use Rattle.time_table.proofs.Sums.{has-none, has-above, lt-or-le}
 use Rattle.time_table.proofs.Demanded.{demanded}
 use Rattle.sweep.specs.declared.Task.{Task}
 use Rattle.sweep.specs.declared.Tasks.{Tasks}
-use Rattle.sweep.proofs.Covered.{past-none}
+use Rattle.sweep.proofs.CoveringTasks.{past-none}
 use Rattle.sweep.specs.Tasks.{noTask, tasksOf, tasksWith, taskAt, usageOf, runEnd, inPart, runs, Sweepable}
 use Rattle.planner.specs.Ranges.{lastEnd}
 use Rattle.planner.specs.Sound.{Limited, SoundTasks}

@@ -14,7 +14,7 @@ use Rattle.time_table.proofs.Bits.{both}
 use Rattle.sweep.specs.declared.Task.{Task}
 use Rattle.sweep.specs.Tasks.{noTask, tasksWith, heldTasks, taskAt}
 use Rattle.sweep.specs.Created.{keeps, inOrder, created}
-use Rattle.sweep.proofs.Created.{in-order-low, order-few}
+use Rattle.sweep.proofs.JobOrder.{in-order-low, order-few}
 use Rattle.sweep.proofs.Placed.{get-map, created-at, created-kept, created-length}
 use Rattle.planner.specs.declared.Job.{Job}
 use Rattle.planner.specs.declared.Jobs.{Jobs}

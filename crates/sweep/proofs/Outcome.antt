@@ -14,7 +14,7 @@ use Rattle.time_table.proofs.Held.{held-self, held-list}
 use Rattle.sweep.specs.declared.Tasks.{Tasks}
 use Rattle.sweep.specs.Tasks.{tasksOf, runs, usageOf, Sweepable}
 use Rattle.sweep.specs.Sweep.{sweep, swept}
-use Rattle.sweep.proofs.Swept.{sweep-length}
+use Rattle.sweep.proofs.SweepRows.{sweep-length}
 use Rattle.sweep.proofs.Right.{sweep-right}
 
 module _ (capacity : ℕ) where

@@ -17,10 +17,10 @@ use Rattle.time_table.proofs.Sums.{has-in, has-below, has-above, by-place, lt-o
 use Rattle.sweep.specs.declared.Task.{Task}
 use Rattle.sweep.specs.Tasks.{taskAt, usageOf, runEnd, runs}
 use Rattle.sweep.specs.Sweep.{idsAt, cuts, sweep}
-use Rattle.sweep.proofs.Runs.{Run, done, more}
-use Rattle.sweep.proofs.Cuts.{cuts-of}
-use Rattle.sweep.proofs.Covered.{ids-occur, ids-few, ids-after}
-use Rattle.sweep.proofs.Swept.{OurRuns, sweep-runs}
+use Rattle.sweep.proofs.MaximalRuns.{Run, done, more}
+use Rattle.sweep.proofs.SweepCuts.{cuts-of}
+use Rattle.sweep.proofs.CoveringTasks.{ids-occur, ids-few, ids-after}
+use Rattle.sweep.proofs.SweepRows.{OurRuns, sweep-runs}
 
 module _ (ts : List Task) where
   abbrev OurRun : ℕ → Row → Type 0

@@ -14,13 +14,13 @@ use Rattle.time_table.specs.Meaning.{total, occurs}
 use Rattle.time_table.proofs.Sums.{lt-or-le}
 use Rattle.sweep.specs.declared.Task.{Task}
 use Rattle.sweep.specs.Tasks.{latestOf, usageOf, runs}
-use Rattle.sweep.specs.Ordering.{InTurn, In, here, there, Sorted, nil, cons}
+use Rattle.sweep.specs.Sorting.{InTurn, In, here, there, Sorted, nil, cons}
 use Rattle.sweep.specs.Sweep.{idsAt, sweep}
 use Rattle.sweep.specs.Sentence.{Lists, ByLatest, RunRow, Found, Ahead, SweepOf}
-use Rattle.sweep.proofs.Ordered.{in-occurs, sorted-map}
-use Rattle.sweep.proofs.Covered.{sooner, ids-occur, ids-sorted, ids-unique}
-use Rattle.sweep.proofs.Runs.{Run, done, more, runs-unique}
-use Rattle.sweep.proofs.Swept.{OurRuns, sweep-runs}
+use Rattle.sweep.proofs.Sorting.{in-occurs, sorted-map}
+use Rattle.sweep.proofs.CoveringTasks.{sooner, ids-occur, ids-sorted, ids-unique}
+use Rattle.sweep.proofs.MaximalRuns.{Run, done, more, runs-unique}
+use Rattle.sweep.proofs.SweepRows.{OurRuns, sweep-runs}
 
 module _ (ts : List Task) where
   to-latest : (i j : ℕ) → InTurn (sooner ts) i j → ByLatest ts i j

@@ -1,7 +1,8 @@
 pub mod Tasks
-pub mod Ordering
+pub mod Sorting
 pub mod Events
 pub mod Profile
 pub mod Sweep
 pub mod Sentence
 pub mod Created
+pub mod JobsSentence

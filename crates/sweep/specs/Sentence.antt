@@ -9,7 +9,7 @@ use Rattle.time_table.specs.Rows.{rowOf, tasks}
 use Rattle.time_table.specs.Meaning.{total, occurs}
 use Rattle.sweep.specs.declared.Task.{Task}
 use Rattle.sweep.specs.Tasks.{latestOf, usageOf, runs}
-use Rattle.sweep.specs.Ordering.{In, Sorted}
+use Rattle.sweep.specs.Sorting.{In, Sorted}
 
 -- the row lists the tasks that cover t, each once, and no other
 abbrev pub Lists : List Task → Row → ℕ → Type 0

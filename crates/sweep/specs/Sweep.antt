@@ -13,7 +13,7 @@ use Rattle.time_table.specs.Overload.{conflictIn}
 use Rattle.sweep.specs.declared.Task.{Task}
 use Rattle.sweep.specs.declared.time_table_over_interval.Swept.{Swept}
 use Rattle.sweep.specs.Tasks.{taskAt, latestOf, usageOf, runEnd, runs}
-use Rattle.sweep.specs.Ordering.{ordered}
+use Rattle.sweep.specs.Sorting.{ordered}
 
 -- the tasks that cover t, by latest start and then by id
 unfoldable pub idsAt : List Task → ℕ → List ℕ

@@ -13,15 +13,19 @@ use Rattle.sweep.specs.declared.Tasks.{Tasks}
 abbrev pub noTask : Task
 noTask = record { earliest = 0; latest = 0; duration = 0; usage = 0 }
 
+-- how many tasks there is room for
+abbrev pub roomForTasks : ℕ
+roomForTasks = 32
+
 -- the tasks of a struct, in the order of their ids; and the struct of some tasks, whose unused places are 0
 abbrev pub tasksOf : Tasks → List Task
 tasksOf ts = take (ts .count) (ts .list)
 
 abbrev pub tasksWith : List Task → Tasks
-tasksWith l = record { list = pad 32 noTask l; count = length l }
+tasksWith l = record { list = pad roomForTasks noTask l; count = length l }
 
 abbrev pub heldTasks : Tasks → Type 0
-heldTasks ts = Held 32 noTask (ts .list) (ts .count) (tasksOf ts)
+heldTasks ts = Held roomForTasks noTask (ts .list) (ts .count) (tasksOf ts)
 
 -- the task with the id i
 abbrev pub taskAt : List Task → ℕ → Task

@@ -8,7 +8,7 @@ pub mod util;
 ghost use mathlib.Core.Path.{_≡_};
 ghost use mathlib.Core.List.{[]};
 ghost use Prim.Native.Nat.{_<_, _^_};
-ghost use Rattle.sweep.specs.Tasks.{noTask, tasksWith, runEnd, partOf};
+ghost use Rattle.sweep.specs.Tasks.{noTask, tasksWith, lasts, runEnd, partOf};
 use time_table::Part;
 
 // A task: the bounds of its start, how long it runs and what it draws. Its id is its place. One whose
@@ -22,7 +22,7 @@ pub struct Task {
 
 // Tasks or jobs, in `list` up to `count`. Unused places are 0.
 pub struct Tasks {
-    pub list: [Task; 32],
+    pub list: [Task; Tasks::ROOM],
     pub count: usize,
 }
 
@@ -39,12 +39,19 @@ impl Task {
         }
     }
 
+    // How many instants a run has.
+    pub fn lasts(self) -> u32
+        ensures { λ r. ⌜ r ≡ lasts self ⌝ }
+    {
+        self.duration
+    }
+
     // The first instant after a run from the earliest start.
     pub fn run_end(self) -> u32
         requires { ⌜ runEnd self < 2 ^ 32 ⌝ }
         ensures { λ r. ⌜ r ≡ runEnd self ⌝ }
     {
-        self.earliest + self.duration
+        self.earliest + self.lasts()
     }
 
     // The instants at which the task runs wherever it starts.
@@ -71,7 +78,7 @@ impl Tasks {
     {
         let empty = Task::empty();
         Tasks {
-            list: [empty; 32],
+            list: [empty; Tasks::ROOM],
             count: 0,
         }
     }

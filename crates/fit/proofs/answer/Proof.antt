@@ -1,7 +1,7 @@
 -- `answer` meets its contract: the candidate is the answer if it is within the bounds.
 -- Assumes nothing.
 use mathlib.Core.Path.{sym}
-use Rattle.fit.proofs.Candidate.{answer-found, answer-none}
+use Rattle.fit.proofs.CandidateStart.{answer-found, answer-none}
 use native.Mathlib.Omega.{arith}
 use Rattle.fit.proofs.answer.Statement.{statement}
 use Rattle.fit.proofs.answer.Tie as tie

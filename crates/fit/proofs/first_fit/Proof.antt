@@ -1,11 +1,12 @@
 -- `first_fit` meets its contract. The invariant: the answer is the one of the candidate settled over the rows from `at` on.
 -- Assumes nothing.
+mod RowPass
 use mathlib.Core.Path.{sym, _∙_}
 use Prim.Native.Nat.{_-_}
 use borrow.Author.Tests.{ltb-true, ltb-false}
 use Rattle.time_table.specs.Rows.{rowsOf}
-use Rattle.fit.proofs.Candidate.{over-none}
-use Rattle.fit.proofs.Pass.{Passing, pass-begins, pass-late, pass-ends, row-ends, pass-stops, pass-under, pass-after, pass-moves}
+use Rattle.fit.proofs.CandidateStart.{over-none}
+use Rattle.fit.proofs.first_fit.Proof.RowPass.{Passing, pass-begins, pass-late, pass-ends, row-ends, pass-stops, pass-under, pass-after, pass-moves}
 use borrow.Author.Needs.{needs}
 use native.Mathlib.Omega.{arith}
 use Rattle.fit.proofs.first_fit.Statement.{statement}

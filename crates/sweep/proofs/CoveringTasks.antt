@@ -12,10 +12,10 @@ use Rattle.time_table.specs.Meaning.{has, occurs}
 use Rattle.time_table.proofs.Sums.{has-in, has-below, has-above, has-none, lt-or-le}
 use Rattle.sweep.specs.declared.Task.{Task}
 use Rattle.sweep.specs.Tasks.{noTask, taskAt, latestOf, runEnd, inPart, runs}
-use Rattle.sweep.specs.Ordering.{ordered, InTurn, In, Sorted}
+use Rattle.sweep.specs.Sorting.{ordered, InTurn, In, Sorted}
 use Rattle.sweep.specs.Sweep.{idsAt, cuts}
-use Rattle.sweep.proofs.Ordered.{ordered-in, ordered-out, ordered-length, ordered-sorted, sorted-unique, by-key}
-use Rattle.sweep.proofs.Cuts.{Full, full-or, cuts-both, CutOf, cuts-of}
+use Rattle.sweep.proofs.Sorting.{ordered-in, ordered-out, ordered-length, ordered-sorted, sorted-unique, by-key}
+use Rattle.sweep.proofs.SweepCuts.{Full, full-or, cuts-both, CutOf, cuts-of}
 
 -- i comes before j, by its latest start
 abbrev pub sooner : List Task → ℕ → ℕ → Bool

@@ -15,7 +15,7 @@ use lib.ListN.{length}
 use Rattle.time_table.proofs.Sums.{lt-or-le}
 use Rattle.sweep.specs.declared.Task.{Task}
 use Rattle.sweep.specs.Tasks.{taskAt, latestOf, runEnd}
-use Rattle.sweep.specs.Ordering.{In, here, there}
+use Rattle.sweep.specs.Sorting.{In, here, there}
 use Rattle.sweep.specs.Sweep.{insertCut, cutsBelow}
 
 -- ascending, from lo on

@@ -13,7 +13,7 @@ use Rattle.time_table.proofs.Held.{held-next, held-end}
 use Rattle.fit.specs.declared.Asked.{Asked}
 use Rattle.fit.specs.Fits.{seen}
 use Rattle.fit.specs.FirstFit.{moved, settled, answer, firstFit}
-use Rattle.fit.proofs.Candidate.{moved-after, moved-under, moved-behind, settled-before, answer-late, room-some}
+use Rattle.fit.proofs.CandidateStart.{moved-after, moved-under, moved-behind, settled-before, answer-late, room-some}
 
 -- the pass with the candidate `start` and the rows from `at` on before it
 pub record Passing (asked : Asked) (capacity : ℕ) (t : Table) (start at : ℕ) : Type 0 where

@@ -13,12 +13,12 @@ use Rattle.time_table.specs.Meaning.{total}
 use Rattle.time_table.proofs.Sums.{lt-or-le}
 use Rattle.time_table.proofs.Totals.{tasks-rowOf}
 use Rattle.sweep.specs.declared.Task.{Task}
-use Rattle.sweep.specs.Tasks.{usageOf}
-use Rattle.sweep.specs.Ordering.{In, here, there}
+use Rattle.sweep.specs.Tasks.{roomForTasks, usageOf}
+use Rattle.sweep.specs.Sorting.{In, here, there}
 use Rattle.sweep.specs.Sweep.{idsAt, cuts, laid, rowsFrom, rowsBy, sweep}
-use Rattle.sweep.proofs.Cuts.{Asc, nil, cons, asc-low, asc-head, asc-tail, cuts-asc, cuts-length}
-use Rattle.sweep.proofs.Covered.{ids-between, ids-before, ids-after, cut-differs}
-use Rattle.sweep.proofs.Runs.{Run, Runs, done, more}
+use Rattle.sweep.proofs.SweepCuts.{Asc, nil, cons, asc-low, asc-head, asc-tail, cuts-asc, cuts-length}
+use Rattle.sweep.proofs.CoveringTasks.{ids-between, ids-before, ids-after, cut-differs}
+use Rattle.sweep.proofs.MaximalRuns.{Run, Runs, done, more}
 
 module _ (ts : List Task) where
   -- the runs of the tasks, from an instant on
@@ -174,5 +174,5 @@ module _ (ts : List Task) where
       go [] h = omega arith
       go (a ∷ bs) h = omega (arith, rows-length a bs)
 
-  pub sweep-few : length ts ≤ 32 → length (sweep ts) ≤ 63
+  pub sweep-few : length ts ≤ roomForTasks → length (sweep ts) ≤ 63
   sweep-few few = omega (arith, sweep-length)
