@@ -21,8 +21,8 @@ use Rattle.sweep.specs.declared.Task.{Task}
 use Rattle.sweep.specs.declared.util.Placed.{Placed}
 use Rattle.sweep.specs.Tasks.{noTask, taskAt}
 use Rattle.sweep.specs.Created.{keeps, inOrder, created, dropped, placedAt, placedBelow}
-use Rattle.sweep.proofs.Covered.{past-none}
-use Rattle.sweep.proofs.Created.{in-order-low}
+use Rattle.sweep.proofs.CoveringTasks.{past-none}
+use Rattle.sweep.proofs.JobOrder.{in-order-low}
 use Rattle.sweep.proofs.Placed.{position-at, get-map, kept-placed, placed-get, order-occur, order-once, created-length, created-at, created-kept, job-numbered, numbers-differ}
 use Rattle.planner.specs.declared.Job.{Job}
 use Rattle.planner.specs.declared.Checked.the-variants.{Accepted}

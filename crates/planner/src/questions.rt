@@ -44,7 +44,7 @@ impl Plan {
         let asked = Asked {
             earliest: task.earliest,
             latest: task.latest,
-            run: task.duration,
+            run: task.lasts(),
             usage: task.usage,
         };
         start_of(first_fit(self.table, asked, self.capacity))

@@ -62,24 +62,27 @@ mul-task c = omega (arith, below c, c .before .before .before .before .before .b
 element-copy-out-task : tie.Need-element-copy-out-task
 element-copy-out-task c = omega (arith, below c, c .before .before .before .before .before .before .pre .tasks .held .fits)
 
+lasts-requires : tie.Need-lasts-requires
+lasts-requires c κs = search needs
+
 first-fit-requires : tie.Need-first-fit-requires
 first-fit-requires c κs =
-    let m = c .before in
+    let m = c .before .before in
     let a = m .before .before .before .before .before .before in
-    rw (place m, asked-read (a .args .self) (a .args .id) (is-true (m .before))) (askable (a .args .self) (a .args .id) (is-true (m .before)) (a .pre) (is-live (m .before)))
+    rw (c .lasts .ensures, place m, asked-read (a .args .self) (a .args .id) (is-true (m .before))) (askable (a .args .self) (a .args .id) (is-true (m .before)) (a .pre) (is-live (m .before)))
 
 start-of-requires : tie.Need-start-of-requires
 start-of-requires c κs =
-    let m = c .before .before in
+    let m = c .before .before .before in
     let a = m .before .before .before .before .before .before in
-    rw (c .first-fit .ensures, place m, asked-read (a .args .self) (a .args .id) (is-true (m .before))) (start-low (a .args .self) (a .args .id) (is-true (m .before)) (a .pre) (is-live (m .before)))
+    rw (c .first-fit .ensures, c .before .lasts .ensures, place m, asked-read (a .args .self) (a .args .id) (is-true (m .before))) (start-low (a .args .self) (a .args .id) (is-true (m .before)) (a .pre) (is-live (m .before)))
 
 returns-3 : tie.Need-returns-3
 returns-3 c =
     let f = c .before in
-    let m = f .before .before in
+    let m = f .before .before .before in
     let a = m .before .before .before .before .before .before in
-    c .start-of .ensures ∙ ap startOf (rw (place m, asked-read (a .args .self) (a .args .id) (is-true (m .before))) at (f .first-fit .ensures))
+    c .start-of .ensures ∙ ap startOf (rw (f .before .lasts .ensures, place m, asked-read (a .args .self) (a .args .id) (is-true (m .before))) at (f .first-fit .ensures))
     ∙ sym (fit-asked (a .args .self) (a .args .id) (is-true (m .before)) (is-live (m .before)))
 
 pub first-fit-spec : {M : Type 1} → statement M
@@ -93,6 +96,7 @@ first-fit-spec =
     cast-place
     mul-task
     element-copy-out-task
+    lasts-requires
     first-fit-requires
     start-of-requires
     returns-3)
