@@ -15,17 +15,22 @@ use lib.ListN.{length, set}
 use Rattle.time_table.specs.declared.Row.{Row}
 use Rattle.time_table.specs.declared.part_by_part.Step.{Step}
 use Rattle.time_table.specs.Rows.{noRow, rowsOf, rowAt}
-use Rattle.time_table.specs.Stepping.{partAt, untouched, NextPiece}
-use Rattle.time_table.proofs.Editing.{stepped}
+use Rattle.time_table.specs.PartByPart.{partAt, untouched, NextPiece}
+use Rattle.time_table.proofs.Editable.{stepped}
 use Rattle.time_table.proofs.Piecewise.{alone-at}
-use Rattle.time_table.proofs.Rising.{Raised, raised-start, raised-more}
-use Rattle.time_table.proofs.Stepped.{later-end}
-use Rattle.time_table.proofs.Laying.{laid-size, last-none, last-some, last-over, Moves, moves-on}
-use Rattle.time_table.proofs.Leading.{Walked, walked-from, walked-none, walked-piece, walked-over, walked-raised, two-ahead, no-place, next-lies, walked-cut, rest-over, walked-rests, moves-start, walked-moved}
+use Rattle.time_table.proofs.time_table_over_interval_incremental.update_time_table.Proof.MovedToEnd.{Raised, raised-start, raised-more}
+use Rattle.time_table.proofs.time_table_over_interval_incremental.update_time_table.Proof.StepOverRows.{later-end}
+use Rattle.time_table.proofs.time_table_over_interval_incremental.update_time_table.Proof.LaidRows.{laid-size, last-none, last-some, last-over, Moves, moves-on}
+use Rattle.time_table.proofs.time_table_over_interval_incremental.update_time_table.Proof.ParkedRow.{Walked, walked-from, walked-none, walked-piece, walked-over, walked-raised, two-ahead, no-place, next-lies, walked-cut, rest-over, walked-rests, moves-start, walked-moved}
 use Rattle.time_table.proofs.Front.{Front, front-behind, clear-start, clear-more, clear-all}
-use Rattle.time_table.proofs.Progress.{stepAt, tabled, overAll, Progress, Turn, turn, Ended, finished, started, ended-is, Closing}
+use Rattle.time_table.proofs.time_table_over_interval_incremental.update_time_table.Proof.PartsDone.{stepAt, tabled, overAll, Progress, Turn, turn, Ended, finished, started, ended-is, Closing}
 use Rattle.time_table.proofs.time_table_over_interval_incremental.update_time_table.Statement.{statement}
 use Rattle.time_table.proofs.time_table_over_interval_incremental.update_time_table.Tie as tie
+mod StepOverRows
+mod MovedToEnd
+mod LaidRows
+mod ParkedRow
+mod PartsDone
 
 abbrev Inv-loop : tie.InvT-loop
 Inv-loop table adjustments outs ins steps rows count empty over k taken taking step lone from row came j low₀ left₀ low left =

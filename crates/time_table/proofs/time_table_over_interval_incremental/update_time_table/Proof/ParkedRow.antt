@@ -17,14 +17,14 @@ use Rattle.time_table.specs.Rows.{noRow, rowAt, rowsOf, cut}
 use Rattle.time_table.specs.Order.{Ordered, ticks}
 use Rattle.time_table.specs.Pieces.{beforePart, afterPart}
 use Rattle.time_table.specs.Insertion.{joined, gapBefore, heightened, grown, startedAt, pastRow, insertion}
-use Rattle.time_table.specs.Stepping.{partAt, piecesFrom, NextPiece, untouched}
-use Rattle.time_table.proofs.Editing.{stepped, CanStep}
+use Rattle.time_table.specs.PartByPart.{partAt, piecesFrom, NextPiece, untouched}
+use Rattle.time_table.proofs.Editable.{stepped, CanStep}
 use Rattle.time_table.proofs.Cut.{cut-none, cut-some}
 use Rattle.time_table.proofs.Sums.{lt-or-le}
 use Rattle.time_table.proofs.Front.{front-behind}
-use Rattle.time_table.proofs.Rising.{Raised}
-use Rattle.time_table.proofs.Stepped.{Late, first-lies, all-late}
-use Rattle.time_table.proofs.Laying.{Laid, Moves, rest-length, piece-first, piece-more, laid-from, laid-piece, laid-none, laid-raised, laid-cut, rest-is, next-ahead, next-late, rests-more, laid-rests}
+use Rattle.time_table.proofs.time_table_over_interval_incremental.update_time_table.Proof.MovedToEnd.{Raised}
+use Rattle.time_table.proofs.time_table_over_interval_incremental.update_time_table.Proof.StepOverRows.{Late, first-lies, all-late}
+use Rattle.time_table.proofs.time_table_over_interval_incremental.update_time_table.Proof.LaidRows.{Laid, Moves, rest-length, piece-first, piece-more, laid-from, laid-piece, laid-none, laid-raised, laid-cut, rest-is, next-ahead, next-late, rests-more, laid-rests}
 
 -- a cut with an instant is a row
 cut-length : (r : Row) (x y : ℕ) → x < y → length (cut r x y) ≡ 1
