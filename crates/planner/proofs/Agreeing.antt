@@ -13,7 +13,7 @@ use Rattle.time_table.specs.Rows.{rowsOf, tableOf}
 use Rattle.time_table.specs.Meaning.{Right}
 use Rattle.time_table.specs.Overload.{conflictIn}
 use Rattle.time_table.specs.declared.Conflict.{Conflict}
-use Rattle.time_table.proofs.Edits.{rows-of, clean-of}
+use Rattle.time_table.proofs.TableOfRows.{rows-of, clean-of}
 use Rattle.sweep.specs.declared.Task.{Task}
 use Rattle.sweep.specs.Tasks.{tasksOf, tasksWith, usageOf, runs}
 use Rattle.sweep.specs.Sweep.{sweep, swept}

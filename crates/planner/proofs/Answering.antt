@@ -10,7 +10,7 @@ use Rattle.time_table.specs.declared.Table.{Table}
 use Rattle.time_table.specs.declared.Conflict.{Conflict}
 use Rattle.time_table.specs.Rows.{rowsOf, tableOf, rowAt}
 use Rattle.time_table.specs.Overload.{conflictIn}
-use Rattle.time_table.proofs.Edits.{table-self}
+use Rattle.time_table.proofs.TableOfRows.{table-self}
 use Rattle.time_table.proofs.Overloaded.{conflict-row}
 use Rattle.time_table.specs.Meaning.{Right}
 use Rattle.sweep.specs.declared.Tasks.{Tasks}

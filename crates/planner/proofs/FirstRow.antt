@@ -12,7 +12,7 @@ use Rattle.time_table.specs.declared.Row.{Row}
 use Rattle.time_table.specs.declared.Conflict.{Conflict}
 use Rattle.time_table.specs.Rows.{rowsOf}
 use Rattle.time_table.specs.Overload.{conflictIn, NoneOver}
-use Rattle.time_table.proofs.Edits.{rows-of}
+use Rattle.time_table.proofs.TableOfRows.{rows-of}
 use Rattle.time_table.proofs.Overloaded.{conflict-row, conflict-none-over}
 use Rattle.sweep.specs.declared.Task.{Task}
 use Rattle.sweep.specs.Tasks.{tasksOf}

@@ -13,8 +13,8 @@ use Rattle.time_table.specs.Rows.{rowsOf, tableOf}
 use Rattle.time_table.specs.Meaning.{Right}
 use Rattle.time_table.specs.Update.{updateOver, updatedRows}
 use Rattle.time_table.specs.declared.Part.{Part}
-use Rattle.time_table.proofs.Edits.{rows-of}
-use Rattle.time_table.proofs.Updates.{UpdateFits, update-fits}
+use Rattle.time_table.proofs.TableOfRows.{rows-of}
+use Rattle.time_table.proofs.TableUpdate.{UpdateFits, update-fits}
 use Rattle.sweep.specs.declared.Task.{Task}
 use Rattle.sweep.specs.declared.util.Placed.{Placed}
 use Rattle.sweep.specs.Tasks.{tasksOf, tasksWith, taskAt, usageOf, partOf, runs}

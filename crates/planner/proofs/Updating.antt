@@ -18,10 +18,10 @@ use Rattle.time_table.specs.Meaning.{Right}
 use Rattle.time_table.specs.Update.{updateOver, updatedRows, Updatable}
 use Rattle.time_table.specs.Update.{updated as edited}
 use Rattle.time_table.proofs.Held.{held-set}
-use Rattle.time_table.proofs.Edits.{rows-of, clean-of}
-use Rattle.time_table.proofs.Steps.{right-as}
+use Rattle.time_table.proofs.TableOfRows.{rows-of, clean-of}
+use Rattle.time_table.proofs.PartsInTurn.{right-as}
 use Rattle.time_table.proofs.AdjustedRight.{moved-self}
-use Rattle.time_table.proofs.Updates.{UpdateFits, update-fits, updated-right}
+use Rattle.time_table.proofs.TableUpdate.{UpdateFits, update-fits, updated-right}
 use Rattle.sweep.specs.declared.Task.{Task}
 use Rattle.sweep.specs.declared.Tasks.{Tasks}
 use Rattle.sweep.specs.Tasks.{noTask, tasksOf, tasksWith, taskAt, usageOf, partOf, inPart, runs}

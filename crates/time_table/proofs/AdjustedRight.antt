@@ -17,12 +17,11 @@ use Rattle.time_table.specs.Meaning.{Runs, bit, has, Right, Within, With
 use Rattle.time_table.specs.Update.{moved, updatedRows}
 use Rattle.time_table.specs.Insertion.{insertion}
 use Rattle.time_table.specs.Removal.{removal}
-use Rattle.time_table.proofs.Editing.{Puts, Takes, Steps}
-use Rattle.time_table.proofs.Adjusted.{stretch-none, stretch-some}
-use Rattle.time_table.proofs.Left.{left}
+use Rattle.time_table.proofs.Editable.{Puts, Takes, Steps}
+use Rattle.time_table.proofs.PartDifference.{stretch-none, stretch-some, left}
 use Rattle.time_table.proofs.Sums.{has-none, lt-or-le}
 use Rattle.time_table.proofs.EditRight.{insertion-right, removal-right}
-use Rattle.time_table.proofs.Steps.{edits-right}
+use Rattle.time_table.proofs.PartsInTurn.{edits-right}
 use Rattle.time_table.proofs.Bits.{bit-le, cond-same}
 
 -- truth values by their count

@@ -10,7 +10,7 @@ use Rattle.time_table.specs.Rows.{cut}
 use Rattle.time_table.specs.Insertion.{alone, joined, grown, startedAt}
 use Rattle.time_table.specs.Removal.{reduced}
 use Rattle.time_table.proofs.Cut.{cut-none, cut-some}
-use Rattle.time_table.proofs.Lessened.{lessened-apart}
+use Rattle.time_table.proofs.CoveredPiece.{lessened-apart}
 
 -- a row cut to all of itself
 cut-whole : (r : Row) (x y : ℕ) → r .start ≤ r .end → x ≡ r .start → y ≡ r .end + 1 → cut r x y ≡ r ∷ []

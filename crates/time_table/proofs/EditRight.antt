@@ -19,7 +19,7 @@ use Rattle.time_table.proofs.AtRow.{each-at, each-of, summed-const, sum
 use Rattle.time_table.proofs.Pigeon.{fewer, occurs-position}
 use Rattle.time_table.proofs.Totals.{total-bound, total-taken, total-without}
 use Rattle.time_table.proofs.InsertionMeaning.{insertion-tally}
-use Rattle.time_table.proofs.Orders.{insertion-ordered, removal-ordered}
+use Rattle.time_table.proofs.RowsInOrder.{insertion-ordered, removal-ordered}
 use Rattle.time_table.proofs.RowSound.{insertion-sound, removal-sound}
 use Rattle.time_table.proofs.RemovalSum.{Lessens, removal-sum}
 use Rattle.time_table.proofs.Bits.{bit-le, bit-true, bit-false}

@@ -18,9 +18,9 @@ use Rattle.time_table.specs.Meaning.{Runs, Right, Within, PartOf, With}
 use Rattle.time_table.specs.Update.{after, Updatable}
 use Rattle.time_table.proofs.AtRow.{each-at, ordered-at}
 use Rattle.time_table.proofs.EditRight.{runs-in, each-removable, removal-right}
-use Rattle.time_table.proofs.Editing.{Takes, Steps}
+use Rattle.time_table.proofs.Editable.{Takes, Steps}
 use Rattle.time_table.proofs.Demanded.{demanded}
-use Rattle.time_table.proofs.Updates.{update-removes}
+use Rattle.time_table.proofs.TableUpdate.{update-removes}
 
 -- some row overlaps a part
 pub record Met (p : Part) (rows : List Row) : Type 0 where

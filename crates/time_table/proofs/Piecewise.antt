@@ -12,7 +12,7 @@ use Rattle.time_table.specs.declared.part_by_part.Step.{Step}
 use Rattle.time_table.specs.Pieces.{Cuts, beforePart}
 use Rattle.time_table.specs.Insertion.{alone, startedAt, Insertable}
 use Rattle.time_table.specs.Removal.{Removable}
-use Rattle.time_table.specs.Stepping.{partAt, gapIn, coveredIn, piecesFrom, NextPiece, Changeable}
+use Rattle.time_table.specs.PartByPart.{partAt, gapIn, coveredIn, piecesFrom, NextPiece, Changeable}
 
 pub no-piece : (piece : Piece) {next : ℕ} {l : List Row} → Cuts piece next l → piece .some ≡ false → l ≡ []
 no-piece piece c e = sym (c .0) ∙ ap (λ (b : Bool). cond b (piece .row ∷ []) []) e

@@ -14,7 +14,7 @@ use Rattle.time_table.specs.Order.{Each}
 use Rattle.time_table.specs.Removal.{without, lessened, reduced, removal}
 use Rattle.time_table.specs.Meaning.{has, summed}
 use Rattle.time_table.proofs.Sums.{summed-append, summed-cut, three, lt-or-le, by-place, has-in, has-below, has-above, has-none}
-use Rattle.time_table.proofs.Lessened.{lessened-flat, lessened-apart, lessened-is}
+use Rattle.time_table.proofs.CoveredPiece.{lessened-flat, lessened-apart, lessened-is}
 use Rattle.time_table.proofs.Bits.{cond-same}
 
 -- where a part meets a row, f falls by v without the task, and a row that has no height left is v high in f

@@ -18,7 +18,7 @@ use Rattle.time_table.proofs.Held.{held-as}
 use Rattle.time_table.proofs.Cut.{cut-none, cut-some}
 use Rattle.time_table.proofs.Sums.{lt-or-le}
 use Rattle.time_table.proofs.Totals.{tasks-rowOf, total-joined, total-without}
-use Rattle.time_table.proofs.Lessened.{lessened-flat, lessened-is}
+use Rattle.time_table.proofs.CoveredPiece.{lessened-flat, lessened-is}
 
 module _ (P : Row → Type 0) where
   pub each-none : Each P []

@@ -16,7 +16,7 @@ use Rattle.time_table.specs.Removal.{reduced, removal}
 use Rattle.time_table.specs.Sentence.{Before, Overlapping, Behind, Around, Split, uncovered, pieces, replaced, inserted, removed}
 use Rattle.time_table.proofs.Cut.{cut-none, cut-some}
 use Rattle.time_table.proofs.Apart.{reduced-early, reduced-late, grown-early, grown-late}
-use Rattle.time_table.proofs.Orders.{ordered-from}
+use Rattle.time_table.proofs.RowsInOrder.{ordered-from}
 use Rattle.time_table.proofs.Sums.{lt-or-le}
 
 -- of rows that are in order the later ones are so too, and what holds of each row from an instant on holds of all that start there or later

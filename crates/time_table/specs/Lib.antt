@@ -11,5 +11,5 @@ pub mod Overload
 pub mod Meaning
 pub mod Update
 pub mod Sentence
-pub mod Stepping
+pub mod PartByPart
 pub mod Demand

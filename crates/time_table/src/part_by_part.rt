@@ -3,7 +3,7 @@ ghost use mathlib.Core.Path.{_≡_};
 ghost use Prim.Native.Nat.{_+_, _<_, _^_};
 ghost use Rattle.time_table.specs.Pieces.{Cuts};
 ghost use Rattle.time_table.specs.Insertion.{alone, startedAt, pastRow};
-ghost use Rattle.time_table.specs.Stepping.{partAt, untouched, coveredIn, NextPiece, madeLast, Changeable};
+ghost use Rattle.time_table.specs.PartByPart.{partAt, untouched, coveredIn, NextPiece, madeLast, Changeable};
 use crate::Part;
 use crate::Row;
 use crate::checks;

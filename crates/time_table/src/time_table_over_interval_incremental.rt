@@ -16,17 +16,19 @@ use crate::part_by_part::Step;
 use crate::pieces::Piece;
 
 // The table of a task's old mandatory part turned into that of its new one; or, where some one part
-// would leave over 128 rows, the table as it was, and `over`. First what is removed is done, then what
-// is added. Each part finds the first row that does not end before it, by halving, and goes on from
-// there: it reads the rows at `i`, writes what becomes of them at `n`, and clears the places of old
-// rows that are left behind. So the array has, while a part is done,
+// would leave over 128 rows, the table as it was, and `over`. First the removed parts are applied, then
+// the added ones. Each part skips the rows that end before it, by halving, and goes on from there: it
+// reads the rows at `read`, writes what becomes of them at `write`, and clears the places of old rows
+// that are left behind. So the array has, while a part is applied,
 //
-//     0 .. n      what is done
-//     n .. i      free places
-//     i .. count  the rows that are not read yet
+//     0 .. write     what is written
+//     write .. read  free places
+//     read .. count  the rows that are not read yet
 //
 // and where a piece has no free place, the rows that are not read yet first go to the end of the array.
-// One function does it all, since to hand the rows to another inside a loop would copy them.
+// In a full table there is no end to go to: the row at `read` is parked in a variable, and the piece
+// takes its place. One function does it all, since to hand the rows to another inside a loop would copy
+// them.
 pub fn update_time_table(table: Table, old: Part, new: Part) -> Edited
     requires { ⌜ Updatable old new table ⌝ }
     ensures { λ r. ⌜ r ≡ updated old new table ⌝ }
@@ -34,127 +36,140 @@ pub fn update_time_table(table: Table, old: Part, new: Part) -> Edited
     let adjustments = get_mandatory_part_adjustments(old, new);
     let removed = adjustments.removed;
     let added = adjustments.added;
-    let outs = removed.parts;
-    let ins = added.parts;
+    let removed_parts = removed.parts;
+    let added_parts = added.parts;
     let steps = removed.count + added.count;
     let mut rows = table.rows;
     let mut count = table.count;
     let empty = Row::empty();
     let mut over = false;
-    let mut k = 0;
-    'parts: while k < steps {
-        // the steps by number: first the parts that are removed, then those that are added
-        let taken = adjustments.removed.count;
-        let taking = k < taken;
-        let mut part = outs[0];
+    let mut done = 0;
+    'parts: while done < steps {
+        // the removed parts come first, then the added ones
+        let removals = adjustments.removed.count;
+        let taking = done < removals;
+        let mut part = removed_parts[0];
         if taking {
-            part = outs[k];
+            part = removed_parts[done];
         } else {
-            part = ins[k - taken];
+            part = added_parts[done - removals];
         }
         let step = Step { part, taking };
-        let lone = checks::new_profile(part);
-        let mut from = step.part.from;
-        // the row whose pieces are written, the instant at which the step came to it, and its next piece
+        let task_alone = checks::new_profile(part);
+        // the instant up to which the part is applied
+        let mut reached = step.part.from;
+        // the row that falls into pieces, the instant reached before it, and the next of its pieces
         let mut row = empty;
-        let mut came = from;
-        let mut j = Piece::ALL;
-        let mut low = 0;
-        let mut left = count;
-        while 0 < left {
-            let half = left - left / 2;
-            left /= 2;
-            let row = rows[low + half - 1];
-            if row.end < step.part.from {
-                low += half;
+        let mut reached_before = reached;
+        let mut piece_number = Piece::ALL;
+        // skip the rows that end before the part; of `unknown` rows it is not known yet whether they do
+        let mut skipped = 0;
+        let mut unknown = count;
+        'skip: while 0 < unknown {
+            let half = unknown - unknown / 2;
+            unknown /= 2;
+            let middle = rows[skipped + half - 1];
+            if middle.end < step.part.from {
+                skipped += half;
             }
         }
-        let mut i = low;
-        let mut n = low;
-        // the row at `i`, where a piece is written over it since the table is full
-        let mut held = empty;
-        while i < count || j < Piece::ALL {
-            if j < Piece::ALL {
-                // a piece of the row before may be still to be written
-                let part = part_by_part::part_at(step, came);
-                let piece = part_by_part::next_piece(step.taking, part, lone, row, j);
-                j = piece.next;
+        let mut read = skipped;
+        let mut write = skipped;
+        // the row at `read`, where a piece took its place
+        let mut parked = empty;
+        'walk: while read < count || piece_number < Piece::ALL {
+            if piece_number < Piece::ALL {
+                // write the next piece of the row, if there is one
+                let part_here = part_by_part::part_at(step, reached_before);
+                let piece = part_by_part::next_piece(
+                    step.taking,
+                    part_here,
+                    task_alone,
+                    row,
+                    piece_number,
+                );
+                piece_number = piece.next;
                 if piece.some {
-                    if i < count {
-                        // a second row is in the way, and the table is full: there will be too many rows
-                        if i < n {
+                    if read < count {
+                        // a row is parked already, and the table is full: there will be too many rows
+                        if read < write {
                             over = true;
                             break 'parts;
                         }
-                        if n == i {
-                            held = rows[i];
+                        if write == read {
+                            parked = rows[read];
                             if count < Table::ROWS {
-                                // the rows not read yet go to the end of the table
+                                // make room: the rows not read yet go to the end of the table
                                 let mut top = Table::ROWS;
-                                while i < count {
+                                'raise: while read < count {
                                     count -= 1;
                                     top -= 1;
                                     let moved = rows[count];
                                     rows[top] = moved;
                                 }
-                                i = top;
+                                read = top;
                                 count = Table::ROWS;
                             }
                         }
-                    } else if n == Table::ROWS {
+                    } else if write == Table::ROWS {
                         over = true;
                         break 'parts;
                     }
                     let laid = piece.row;
-                    rows[n] = laid;
-                    n += 1;
+                    rows[write] = laid;
+                    write += 1;
                 }
             } else {
-                let mut next = rows[i];
-                if i < n {
-                    next = held;
+                // read the next row
+                let mut next = rows[read];
+                if read < write {
+                    next = parked;
                 }
-                // a row that the part changes; else it stays in its place, or moves, and so do all behind it
-                if !part_by_part::is_untouched(step, from, next) {
+                if !part_by_part::is_untouched(step, reached, next) {
+                    // it falls into pieces
                     row = next;
-                    came = from;
-                    j = 0;
-                    from = part_by_part::instant_behind(step.part, from, next);
-                    i += 1;
-                } else if i < n {
+                    reached_before = reached;
+                    piece_number = 0;
+                    reached = part_by_part::instant_behind(step.part, reached, next);
+                    read += 1;
+                } else if read < write {
+                    // it stays, as do all behind it, but a piece has its place
                     over = true;
                     break 'parts;
-                } else if n == i {
-                    n = count;
-                    i = count;
+                } else if write == read {
+                    // it stays in its place, as do all behind it
+                    write = count;
+                    read = count;
                 } else {
-                    while i < count {
-                        let moved = rows[i];
-                        rows[n] = moved;
-                        n += 1;
-                        i += 1;
+                    // it moves down to the free places, as do all behind it
+                    'lower: while read < count {
+                        let moved = rows[read];
+                        rows[write] = moved;
+                        write += 1;
+                        read += 1;
                     }
                 }
             }
         }
-        // what of the part lies behind the last row
-        let last = part_by_part::last_profile(step, lone, from);
+        // write what of the part lies behind the last row
+        let last = part_by_part::last_profile(step, task_alone, reached);
         if last.some {
-            if n == Table::ROWS {
+            if write == Table::ROWS {
                 over = true;
                 break 'parts;
             }
             let laid = last.row;
-            rows[n] = laid;
-            n += 1;
+            rows[write] = laid;
+            write += 1;
         }
-        let mut at = n;
-        while at < count {
-            rows[at] = empty;
-            at += 1;
+        // clear the places of old rows that are left behind
+        let mut place = write;
+        'clear: while place < count {
+            rows[place] = empty;
+            place += 1;
         }
-        count = n;
-        k += 1;
+        count = write;
+        done += 1;
     }
     if over {
         rows = table.rows;

@@ -8,7 +8,7 @@ use lib.ListN.{drop}
 use Rattle.time_table.specs.declared.Table.{Table}
 use Rattle.time_table.specs.Rows.{rowsOf, rowAt, noRow, Clean}
 use Rattle.time_table.specs.Order.{Ordered, ticks, Arranged}
-use Rattle.time_table.proofs.Orders.{ordered-from}
+use Rattle.time_table.proofs.RowsInOrder.{ordered-from}
 use Rattle.time_table.proofs.Held.{held-next, held-end}
 use Rattle.fit.specs.declared.Asked.{Asked}
 use Rattle.fit.specs.Fits.{seen}

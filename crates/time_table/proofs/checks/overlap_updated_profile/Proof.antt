@@ -1,7 +1,7 @@
 -- `overlap_updated_profile` meets its contract: it is the row with the task, cut to what the part covers, if it covers something.
 -- Assumes nothing.
 use mathlib.Core.Path.{sym, _∙_}
-use Rattle.time_table.proofs.Heightened.{heightened-apart}
+use Rattle.time_table.proofs.CoveredPiece.{heightened-apart}
 use borrow.Author.Needs.{needs}
 use native.Mathlib.Omega.{arith}
 use Rattle.time_table.proofs.checks.overlap_updated_profile.Statement.{statement}

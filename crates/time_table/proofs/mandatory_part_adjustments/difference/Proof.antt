@@ -1,6 +1,6 @@
 -- `difference` meets its contract: the definition's cases, and each part put behind the others.
 -- Assumes nothing.
-use Rattle.time_table.proofs.Adjusted.{left-apart, left-empty, left-ends, parts-held}
+use Rattle.time_table.proofs.PartDifference.{left-apart, left-empty, left-ends, parts-held}
 use mathlib.Core.Path.{sym, _∙_}
 use borrow.Author.Needs.{needs}
 use Rattle.time_table.proofs.mandatory_part_adjustments.difference.Statement.{statement}

@@ -1,7 +1,7 @@
 -- `overlap_updated_profile` meets its contract: it is the row without the task, cut to what the part covers, if height is left and it covers something.
 -- Assumes nothing.
 use mathlib.Core.Path.{sym, _∙_}
-use Rattle.time_table.proofs.Lessened.{lessened-flat, lessened-apart, lessened-is}
+use Rattle.time_table.proofs.CoveredPiece.{lessened-flat, lessened-apart, lessened-is}
 use borrow.Author.Needs.{needs}
 use native.Mathlib.Omega.{arith}
 use Rattle.time_table.proofs.removal.overlap_updated_profile.Statement.{statement}

@@ -1,16 +1,28 @@
 -- `position` meets its contract. The invariant: the place in the whole list is `at` more than the place in what is left of it.
 -- Assumes nothing.
 use mathlib.Core.Path.{_≡_, sym, _∙_}
-use Prim.Native.Nat.{_+_, _-_, _≤_, _<_}
-use native.Mathlib.Numerals.{add-one}
-use lib.ListN.{length, take, drop}
-use lib.Seq.{getD-take}
-use Rattle.time_table.specs.Rows.{tasks}
+use mathlib.Core.List.{List}
+use Prim.Native.Nat.{ℕ, suc, _≤_, _<_, _+_, _-_}
+use borrow.Author.Tests.{eq-eqb, ne-eqb}
+use lib.ListN.{length, drop, getD, drop-of-length-le, take}
+use lib.Seq.{drop-cons, getD-take}
 use Rattle.time_table.specs.Removal.{position}
-use Rattle.time_table.proofs.Position.{here, further, nowhere}
+use native.Mathlib.Numerals.{add-one}
+use Rattle.time_table.specs.Rows.{tasks}
 use native.Mathlib.Omega.{arith}
 use Rattle.time_table.proofs.removal.position.Statement.{statement}
 use Rattle.time_table.proofs.removal.position.Tie as tie
+
+-- from a place on the position is 0 if the task is there or the list has ended, and else one more than from the next place on
+module _ (id : ℕ) (l : List ℕ) (at : ℕ) where
+  here : at < length l → getD l at 0 ≡ id → position id (drop at l) ≡ 0
+  here lt e = simp (drop-cons l at 0, eq-eqb (getD l at 0) id e)
+
+  further : at < length l → (getD l at 0 ≡ id → ⊥) → position id (drop at l) ≡ suc (position id (drop (suc at) l))
+  further lt ne = simp (drop-cons l at 0, ne-eqb (getD l at 0) id ne)
+
+  nowhere : length l ≤ at → position id (drop at l) ≡ 0
+  nowhere le = simp (drop-of-length-le l)
 
 abbrev Inv-loop : tie.InvT-loop
 Inv-loop id count ids at₀ at = (at ≤ count) × (length (take count ids) ≡ count) × (count ≤ 32) × (position id (take count ids) ≡ at + position id (drop at (take count ids)))

@@ -1,500 +1,526 @@
--- `update_time_table` meets its contract. The invariants: so many parts are done, first removed ones and then added ones; the rows below `low` end
--- before the part at hand, and those from `left` places on do not; of the part so many rows are laid, with what is left they are all, and what is left stands
--- from `i` on; rows go to the end of the table, or down, one by one; and behind the rows the places are cleared.
+-- `update_time_table` meets its contract: each part is a walk over the rows, and what is written and what the step makes of the rows not read yet are all that
+-- it makes. Proof/Places.antt has the invariants, and names the places that are spoken of here.
 -- Assumes nothing.
 use mathlib.Core.Path.{_≡_, refl, sym, ap, _∙_}
-use mathlib.Core.Bool.{true, false, true≢false}
+use mathlib.Core.Bool.{Bool, true, false, true≢false}
 use mathlib.Core.Logic.{_⊎_, inl, inr, ⊎-elim}
-use mathlib.Core.List.{List}
-use Prim.Native.Nat.{ℕ, _+_, _-_, _*_, _/_, _≤_, _<_}
+use Prim.Native.Nat.{ℕ, _+_, _-_, _/_, _≤_, _<_}
 use native.Mathlib.Omega.{arith}
 use borrow.Author.Needs.{needs}
 use borrow.Author.Tests.{ltb-true, ltb-false, not-false}
-use lib.Dec.{ltb}
-use lib.ListN.{length, set}
-use Rattle.time_table.specs.declared.Row.{Row}
-use Rattle.time_table.specs.declared.part_by_part.Step.{Step}
-use Rattle.time_table.specs.Rows.{noRow, rowsOf, rowAt}
-use Rattle.time_table.specs.Stepping.{partAt, untouched, NextPiece}
-use Rattle.time_table.proofs.Editing.{stepped}
+use lib.ListN.{set}
+use Rattle.time_table.specs.declared.Table.{Table}
+use Rattle.time_table.specs.declared.Edited.{Edited}
+use Rattle.time_table.specs.Rows.{noRow, rowAt}
+use Rattle.time_table.specs.Update.{updated}
+use Rattle.time_table.specs.PartByPart.{partAt, untouched, NextPiece}
 use Rattle.time_table.proofs.Piecewise.{alone-at}
-use Rattle.time_table.proofs.Rising.{Raised, raised-start, raised-more}
-use Rattle.time_table.proofs.Stepped.{later-end}
-use Rattle.time_table.proofs.Laying.{laid-size, last-none, last-some, last-over, Moves, moves-on}
-use Rattle.time_table.proofs.Leading.{Walked, walked-from, walked-none, walked-piece, walked-over, walked-raised, two-ahead, no-place, next-lies, walked-cut, rest-over, walked-rests, moves-start, walked-moved}
 use Rattle.time_table.proofs.Front.{Front, front-behind, clear-start, clear-more, clear-all}
-use Rattle.time_table.proofs.Progress.{stepAt, tabled, overAll, Progress, Turn, turn, Ended, finished, started, ended-is, Closing}
+use Rattle.time_table.proofs.time_table_over_interval_incremental.update_time_table.Proof.StepOverRows.{later-end}
+use Rattle.time_table.proofs.time_table_over_interval_incremental.update_time_table.Proof.MovedToEnd.{raised-start, raised-more}
+use Rattle.time_table.proofs.time_table_over_interval_incremental.update_time_table.Proof.LaidRows.{laid-size, last-none, last-some, last-over, Moves, moves-on}
+use Rattle.time_table.proofs.time_table_over_interval_incremental.update_time_table.Proof.ParkedRow.{Walked, walked-from, walked-none, walked-piece, walked-over, walked-raised, two-ahead, no-place, next-lies, walked-cut, rest-over, walked-rests, moves-start, walked-moved}
+use Rattle.time_table.proofs.time_table_over_interval_incremental.update_time_table.Proof.PartsDone.{stepAt, tabled, overAll, turn, Progress, Ended, finished, started, ended-is}
+use Rattle.time_table.proofs.time_table_over_interval_incremental.update_time_table.Proof.Places.{Inv-skip, μ-skip, Inv-raise, μ-raise, Inv-lower, μ-lower, Inv-walk, μ-walk, Inv-clear, μ-clear, Inv-parts, μ-parts, At, adjusted, given, parts, table, turning, stepping, stepOf, skipping, walking, whole, piecing, parking, reading, staying, lowering, ending}
 use Rattle.time_table.proofs.time_table_over_interval_incremental.update_time_table.Statement.{statement}
 use Rattle.time_table.proofs.time_table_over_interval_incremental.update_time_table.Tie as tie
+mod StepOverRows
+mod MovedToEnd
+mod LaidRows
+mod ParkedRow
+mod PartsDone
+mod Places
 
-abbrev Inv-loop : tie.InvT-loop
-Inv-loop table adjustments outs ins steps rows count empty over k taken taking step lone from row came j low₀ left₀ low left =
-    Turn adjustments table k (tabled rows count) step × (low + left ≤ count) × ((x : ℕ) → x < low → rowAt rows x .end < step .part .from)
-    × ((x : ℕ) → low + left ≤ x → x < count → step .part .from ≤ rowAt rows x .end)
-
-abbrev μ-loop : tie.MeasureT-loop
-μ-loop table adjustments outs ins steps rows count empty over k taken taking step lone from row came j low₀ left₀ low left = left
-
-abbrev Inv-loop2 : tie.InvT-loop2
-Inv-loop2 table adjustments outs ins steps rows₀ count₀ empty over₀ k taken taking step lone from₀ row₀ came₀ j₀ low left i₀ n₀ held₀ rows count over from row came j i n held =
-    Turn adjustments table k (tabled rows₀ count₀) step
-    × Walked step (stepped step (step .part .from) (rowsOf (tabled rows₀ count₀))) held rows n from count i row came j × (over ≡ false)
-
-abbrev μ-loop2 : tie.MeasureT-loop2
-μ-loop2 table adjustments outs ins steps rows₀ count₀ empty over₀ k taken taking step lone from₀ row₀ came₀ j₀ low left i₀ n₀ held₀ rows count over from row came j i n held = 5 * (count - i) + (4 - j)
-
-abbrev Inv-loop3 : tie.InvT-loop3
-Inv-loop3 table adjustments outs ins steps rows₀ count₀ empty over k taken taking step lone from row came j low left i n held piece top₀ rows count top =
-    Raised rows₀ count₀ rows count top × (i ≤ count) × (length rows₀ ≡ 128)
-
-abbrev μ-loop3 : tie.MeasureT-loop3
-μ-loop3 table adjustments outs ins steps rows₀ count₀ empty over k taken taking step lone from row came j low left i n held piece top₀ rows count top = count - i
-
-abbrev Inv-loop4 : tie.InvT-loop4
-Inv-loop4 table adjustments outs ins steps rows₀ count empty over k taken taking step lone from row came j low left i₀ n₀ held rows i n =
-    (whole : List Row) → Moves step whole rows₀ n₀ from count i₀ row came j → Moves step whole rows n from count i row came j
-
-abbrev μ-loop4 : tie.MeasureT-loop4
-μ-loop4 table adjustments outs ins steps rows₀ count empty over k taken taking step lone from row came j low left i₀ n₀ held rows i n = count - i
-
-abbrev Inv-loop5 : tie.InvT-loop5
-Inv-loop5 table adjustments outs ins steps rows₀ count empty over k taken taking from came j low left i n at₀ rows at = (count ≤ 128) × Closing adjustments table k count rows n at
-
-abbrev μ-loop5 : tie.MeasureT-loop5
-μ-loop5 table adjustments outs ins steps rows₀ count empty over k taken taking from came j low left i n at₀ rows at = count - at
-
-abbrev Inv-parts : tie.InvT-parts
-Inv-parts table adjustments outs ins steps rows₀ count₀ empty over₀ k₀ rows count over k =
-    (k ≤ steps) × (steps ≡ adjustments .removed .count + adjustments .added .count) × Progress adjustments table k (tabled rows count) × (over ≡ false)
-
-abbrev μ-parts : tie.MeasureT-parts
-μ-parts table adjustments outs ins steps rows₀ count₀ empty over₀ k₀ rows count over k = steps - k
-
-get-mandatory-part-adjustments-requires : tie.Need-get-mandatory-part-adjustments-requires Inv-loop μ-loop Inv-loop3 μ-loop3 Inv-loop4 μ-loop4 Inv-loop2 μ-loop2 Inv-loop5 μ-loop5 Inv-parts μ-parts
+-- THE PARTS
+get-mandatory-part-adjustments-requires : At tie.Need-get-mandatory-part-adjustments-requires
 get-mandatory-part-adjustments-requires c κs = search needs
 
-add-steps : tie.Need-add-steps Inv-loop μ-loop Inv-loop3 μ-loop3 Inv-loop4 μ-loop4 Inv-loop2 μ-loop2 Inv-loop5 μ-loop5 Inv-parts μ-parts
-add-steps c =
-    let a = c .before .before .before .before .before .before .before in
-    let g = c .before .before .before .before .before .before .get-mandatory-part-adjustments in
-    let u = started (a .args .old) (a .args .new) (a .args .table) (g .result) (g .ensures) (a .pre) in
-    omega (arith, u .removed .fits, u .added .fits)
+begins : (c : At tie.After-get-mandatory-part-adjustments) → Progress (c .get-mandatory-part-adjustments .result) (c .before .args .table) 0 (c .before .args .table)
+begins c =
+    let g = c .get-mandatory-part-adjustments in
+    started (c .before .args .old) (c .before .args .new) (c .before .args .table) (g .result) (g .ensures) (c .before .pre)
 
-empty-requires : tie.Need-empty-requires Inv-loop μ-loop Inv-loop3 μ-loop3 Inv-loop4 μ-loop4 Inv-loop2 μ-loop2 Inv-loop5 μ-loop5 Inv-parts μ-parts
+add-steps : At tie.Need-add-steps
+add-steps c = let u = begins (adjusted c) in omega (arith, u .removed .fits, u .added .fits)
+
+empty-requires : At tie.Need-empty-requires
 empty-requires c κs = search needs
 
-parts-holds : tie.Need-parts-holds Inv-loop μ-loop Inv-loop3 μ-loop3 Inv-loop4 μ-loop4 Inv-loop2 μ-loop2 Inv-loop5 μ-loop5 Inv-parts μ-parts
-parts-holds c =
-    let a = c .before .before .before .before .before .before .before .before .before in
-    let g = c .before .before .before .before .before .before .before .before .get-mandatory-part-adjustments in
-    (omega arith, refl, started (a .args .old) (a .args .new) (a .args .table) (g .result) (g .ensures) (a .pre), refl)
+parts-holds : At tie.Need-parts-holds
+parts-holds c = (omega arith, refl, begins (adjusted (c .before .before)), refl)
 
-array-copy-out-part : tie.Need-array-copy-out-part Inv-loop μ-loop Inv-loop3 μ-loop3 Inv-loop4 μ-loop4 Inv-loop2 μ-loop2 Inv-loop5 μ-loop5 Inv-parts μ-parts
+array-copy-out-part : At tie.Need-array-copy-out-part
 array-copy-out-part c = omega arith
 
-mul-part : tie.Need-mul-part Inv-loop μ-loop Inv-loop3 μ-loop3 Inv-loop4 μ-loop4 Inv-loop2 μ-loop2 Inv-loop5 μ-loop5 Inv-parts μ-parts
-mul-part c = omega (arith, ltb-true (c .before .before .before .parts .k) (c .before .before .before .before .before .before .before .before .before .before .before .before .get-mandatory-part-adjustments .result .removed .count) (c .if1 .taken), c .before .before .before .parts .inv .2 .removed .fits)
+-- the number of the part is below the count of those that it is among
+removing : (c : At tie.Then1) → turning (c .before) .parts .done < 2
+removing c =
+    let o = turning (c .before) in
+    omega (arith, ltb-true (o .parts .done) (parts o .removed .count) (c .if1 .taken), o .parts .inv .2 .removed .fits)
 
-array-copy-out-part-2 : tie.Need-array-copy-out-part-2 Inv-loop μ-loop Inv-loop3 μ-loop3 Inv-loop4 μ-loop4 Inv-loop2 μ-loop2 Inv-loop5 μ-loop5 Inv-parts μ-parts
-array-copy-out-part-2 c = omega (arith, ltb-true (c .before .before .before .parts .k) (c .before .before .before .before .before .before .before .before .before .before .before .before .get-mandatory-part-adjustments .result .removed .count) (c .if1 .taken), c .before .before .before .parts .inv .2 .removed .fits)
+adding : (c : At tie.Else1) → (parts (turning (c .before)) .removed .count ≤ turning (c .before) .parts .done) × (turning (c .before) .parts .done - parts (turning (c .before)) .removed .count < 2)
+adding c =
+    let o = turning (c .before) in
+    let le = ltb-false (o .parts .done) (parts o .removed .count) (c .if1 .left) in
+    (le, omega (arith, le, c .before .before .parts-test .taken, o .parts .inv .1, o .parts .inv .2 .added .fits))
 
-sub-part : tie.Need-sub-part Inv-loop μ-loop Inv-loop3 μ-loop3 Inv-loop4 μ-loop4 Inv-loop2 μ-loop2 Inv-loop5 μ-loop5 Inv-parts μ-parts
-sub-part c = omega (arith, ltb-false (c .before .before .before .parts .k) (c .before .before .before .before .before .before .before .before .before .before .before .before .get-mandatory-part-adjustments .result .removed .count) (c .if1 .left), c .before .before .parts-test .taken, c .before .before .before .parts .inv .1, c .before .before .before .parts .inv .2 .added .fits)
+mul-part : At tie.Need-mul-part
+mul-part c = omega (arith, removing c)
 
-mul-part-2 : tie.Need-mul-part-2 Inv-loop μ-loop Inv-loop3 μ-loop3 Inv-loop4 μ-loop4 Inv-loop2 μ-loop2 Inv-loop5 μ-loop5 Inv-parts μ-parts
-mul-part-2 c = omega (arith, ltb-false (c .before .before .before .parts .k) (c .before .before .before .before .before .before .before .before .before .before .before .before .get-mandatory-part-adjustments .result .removed .count) (c .if1 .left), c .before .before .parts-test .taken, c .before .before .before .parts .inv .1, c .before .before .before .parts .inv .2 .added .fits)
+array-copy-out-part-2 : At tie.Need-array-copy-out-part-2
+array-copy-out-part-2 c = omega (arith, removing c)
 
-array-copy-out-part-3 : tie.Need-array-copy-out-part-3 Inv-loop μ-loop Inv-loop3 μ-loop3 Inv-loop4 μ-loop4 Inv-loop2 μ-loop2 Inv-loop5 μ-loop5 Inv-parts μ-parts
-array-copy-out-part-3 c = omega (arith, ltb-false (c .before .before .before .parts .k) (c .before .before .before .before .before .before .before .before .before .before .before .before .get-mandatory-part-adjustments .result .removed .count) (c .if1 .left), c .before .before .parts-test .taken, c .before .before .before .parts .inv .1, c .before .before .before .parts .inv .2 .added .fits)
+sub-part : At tie.Need-sub-part
+sub-part c = omega (arith, adding c .0)
 
-new-profile-requires : tie.Need-new-profile-requires Inv-loop μ-loop Inv-loop3 μ-loop3 Inv-loop4 μ-loop4 Inv-loop2 μ-loop2 Inv-loop5 μ-loop5 Inv-parts μ-parts
+mul-part-2 : At tie.Need-mul-part-2
+mul-part-2 c = omega (arith, adding c .1)
+
+array-copy-out-part-3 : At tie.Need-array-copy-out-part-3
+array-copy-out-part-3 c = omega (arith, adding c .1)
+
+new-profile-requires : At tie.Need-new-profile-requires
 new-profile-requires c κs = search needs
 
 -- the step at hand is the one by its number
-abbrev stepOf : tie.After-new-profile Inv-loop μ-loop Inv-loop3 μ-loop3 Inv-loop4 μ-loop4 Inv-loop2 μ-loop2 Inv-loop5 μ-loop5 Inv-parts μ-parts → Step
-stepOf c = record { part = c .before .if1 .part; taking = ltb (c .before .before .before .before .parts .k) (c .before .before .before .before .before .before .before .before .before .before .before .before .before .get-mandatory-part-adjustments .result .removed .count) }
-
-step-is : (c : tie.After-new-profile Inv-loop μ-loop Inv-loop3 μ-loop3 Inv-loop4 μ-loop4 Inv-loop2 μ-loop2 Inv-loop5 μ-loop5 Inv-parts μ-parts) → stepOf c ≡ stepAt (c .before .before .before .before .before .before .before .before .before .before .before .before .before .get-mandatory-part-adjustments .result) (c .before .before .before .before .parts .k)
+step-is : (c : At tie.After-new-profile) → stepOf c ≡ stepAt (parts (stepping c)) (stepping c .parts .done)
 step-is c =
-    let k = c .before .before .before .before .parts .k in
     ⊎-elim
     (λ w. rw (w .2, w .0 .taken) refl)
     (λ w. rw (w .2, w .0 .left) refl)
     (c .before .if1 .came)
 
-loop-holds : tie.Need-loop-holds Inv-loop μ-loop Inv-loop3 μ-loop3 Inv-loop4 μ-loop4 Inv-loop2 μ-loop2 Inv-loop5 μ-loop5 Inv-parts μ-parts
-loop-holds c =
-    let o = c .before .before .before .before .parts in
-    let tn = turn (c .before .before .before .before .before .before .before .before .before .before .before .before .before .get-mandatory-part-adjustments .result) (c .before .before .before .before .before .before .before .before .before .before .before .before .before .before .args .table) (o .inv .2) (omega (arith, o .inv .1, c .before .before .before .parts-test .taken)) (stepOf c) (step-is c) in
+-- SKIPPING ROWS
+skip-holds : At tie.Need-skip-holds
+skip-holds c =
+    let o = stepping c .parts in
+    let tn = turn (parts (stepping c)) (table (stepping c)) (o .inv .2) (omega (arith, o .inv .1, c .before .before .before .parts-test .taken)) (stepOf c) (step-is c) in
     (tn, omega arith, λ x lt. absurd (omega arith), λ x le lt. absurd (omega arith))
 
-sub-half : tie.Need-sub-half Inv-loop μ-loop Inv-loop3 μ-loop3 Inv-loop4 μ-loop4 Inv-loop2 μ-loop2 Inv-loop5 μ-loop5 Inv-parts μ-parts
+sub-half : At tie.Need-sub-half
 sub-half c = omega arith
 
-add-row : tie.Need-add-row Inv-loop μ-loop Inv-loop3 μ-loop3 Inv-loop4 μ-loop4 Inv-loop2 μ-loop2 Inv-loop5 μ-loop5 Inv-parts μ-parts
-add-row c = omega (arith, c .before .loop .inv .1, c .before .loop .inv .0 .can .arranged .clean .fits)
+-- the row in the middle is one of the table's
+middle : (c : At tie.In-skip) → let l = c .before .skip in (l .skipped + (l .unknown - l .unknown / 2) ≤ 128) × (0 < l .unknown)
+middle c =
+    let l = c .before .skip in
+    (omega (arith, l .inv .1, l .inv .0 .can .arranged .clean .fits), c .skip-test .taken)
 
-sub-row : tie.Need-sub-row Inv-loop μ-loop Inv-loop3 μ-loop3 Inv-loop4 μ-loop4 Inv-loop2 μ-loop2 Inv-loop5 μ-loop5 Inv-parts μ-parts
-sub-row c = omega (arith, c .loop-test .taken)
+add-middle : At tie.Need-add-middle
+add-middle c = omega (arith, middle c)
 
-mul-row : tie.Need-mul-row Inv-loop μ-loop Inv-loop3 μ-loop3 Inv-loop4 μ-loop4 Inv-loop2 μ-loop2 Inv-loop5 μ-loop5 Inv-parts μ-parts
-mul-row c = omega (arith, c .loop-test .taken, c .before .loop .inv .1, c .before .loop .inv .0 .can .arranged .clean .fits)
+sub-middle : At tie.Need-sub-middle
+sub-middle c = omega (arith, middle c)
 
-array-copy-out-row : tie.Need-array-copy-out-row Inv-loop μ-loop Inv-loop3 μ-loop3 Inv-loop4 μ-loop4 Inv-loop2 μ-loop2 Inv-loop5 μ-loop5 Inv-parts μ-parts
-array-copy-out-row c = omega (arith, c .loop-test .taken, c .before .loop .inv .1, c .before .loop .inv .0 .can .arranged .clean .fits)
+mul-middle : At tie.Need-mul-middle
+mul-middle c = omega (arith, middle c)
 
-add-low : tie.Need-add-low Inv-loop μ-loop Inv-loop3 μ-loop3 Inv-loop4 μ-loop4 Inv-loop2 μ-loop2 Inv-loop5 μ-loop5 Inv-parts μ-parts
-add-low c = omega (arith, c .before .before .before .before .before .loop .inv .1, c .before .before .before .before .before .loop .inv .0 .can .arranged .clean .fits)
+array-copy-out-middle : At tie.Need-array-copy-out-middle
+array-copy-out-middle c = omega (arith, middle c)
 
-loop-less : tie.Need-loop-less Inv-loop μ-loop Inv-loop3 μ-loop3 Inv-loop4 μ-loop4 Inv-loop2 μ-loop2 Inv-loop5 μ-loop5 Inv-parts μ-parts
-loop-less c = omega (arith, c .before .before .before .before .loop-test .taken)
+add-skipped : At tie.Need-add-skipped
+add-skipped c = omega (arith, middle (skipping (c .before)))
 
-loop-again : tie.Need-loop-again Inv-loop μ-loop Inv-loop3 μ-loop3 Inv-loop4 μ-loop4 Inv-loop2 μ-loop2 Inv-loop5 μ-loop5 Inv-parts μ-parts
-loop-again c =
-    let l = c .before .before .before .before .before .loop in
-    let some = c .before .before .before .before .loop-test .taken in
-    let at = l .low + (l .left - l .left / 2) - 1 in (
+skip-less : At tie.Need-skip-less
+skip-less c = omega (arith, middle (skipping (c .before)))
+
+skip-again : At tie.Need-skip-again
+skip-again c =
+    let l = skipping (c .before) .before .skip in
+    let some = skipping (c .before) .skip-test .taken in
+    let at = l .skipped + (l .unknown - l .unknown / 2) - 1 in (
       l .inv .0,
       omega (arith, l .inv .1),
       λ x lt. omega (arith, c .if2 .taken, later-end (l .inv .0 .can) x at (omega (arith, some)) (omega (arith, some, l .inv .1))),
       λ x le lt. l .inv .3 x (omega arith) lt,
     )
 
-loop-less-2 : tie.Need-loop-less-2 Inv-loop μ-loop Inv-loop3 μ-loop3 Inv-loop4 μ-loop4 Inv-loop2 μ-loop2 Inv-loop5 μ-loop5 Inv-parts μ-parts
-loop-less-2 c = omega (arith, c .before .before .before .before .loop-test .taken)
+skip-less-2 : At tie.Need-skip-less-2
+skip-less-2 c = omega (arith, middle (skipping (c .before)))
 
-loop-again-2 : tie.Need-loop-again-2 Inv-loop μ-loop Inv-loop3 μ-loop3 Inv-loop4 μ-loop4 Inv-loop2 μ-loop2 Inv-loop5 μ-loop5 Inv-parts μ-parts
-loop-again-2 c =
-    let l = c .before .before .before .before .before .loop in
-    let some = c .before .before .before .before .loop-test .taken in
-    let at = l .low + (l .left - l .left / 2) - 1 in
+skip-again-2 : At tie.Need-skip-again-2
+skip-again-2 c =
+    let l = skipping (c .before) .before .skip in
+    let some = skipping (c .before) .skip-test .taken in
+    let at = l .skipped + (l .unknown - l .unknown / 2) - 1 in
     (l .inv .0, omega (arith, l .inv .1), l .inv .2, λ x le lt. omega (arith, c .if2 .left, later-end (l .inv .0 .can) at x (omega (arith, some)) lt))
 
-loop2-holds : tie.Need-loop2-holds Inv-loop μ-loop Inv-loop3 μ-loop3 Inv-loop4 μ-loop4 Inv-loop2 μ-loop2 Inv-loop5 μ-loop5 Inv-parts μ-parts
-loop2-holds c =
-    let l = c .before .loop in (
+-- A PIECE
+walk-holds : At tie.Need-walk-holds
+walk-holds c =
+    let l = c .before .skip in (
       l .inv .0,
-      walked-from _ _ (l .inv .0 .can) (l .low) _ _ _ (omega (arith, l .inv .1)) (l .inv .2) (λ x le lt. l .inv .3 x (omega (arith, c .loop-test .left)) lt),
-      c .before .before .before .before .before .before .parts .inv .3,
+      walked-from _ _ (l .inv .0 .can) (l .skipped) _ _ _ (omega (arith, l .inv .1)) (l .inv .2) (λ x le lt. l .inv .3 x (omega (arith, c .skip-test .left)) lt),
+      stepping (c .before .before) .parts .inv .3,
     )
 
-part-at-requires : tie.Need-part-at-requires Inv-loop μ-loop Inv-loop3 μ-loop3 Inv-loop4 μ-loop4 Inv-loop2 μ-loop2 Inv-loop5 μ-loop5 Inv-parts μ-parts
+part-at-requires : At tie.Need-part-at-requires
 part-at-requires c κs = search needs
 
-next-piece-requires : tie.Need-next-piece-requires Inv-loop μ-loop Inv-loop3 μ-loop3 Inv-loop4 μ-loop4 Inv-loop2 μ-loop2 Inv-loop5 μ-loop5 Inv-parts μ-parts
+next-piece-requires : At tie.Need-next-piece-requires
 next-piece-requires c κs =
-    (rw (c .part-at .ensures) (c .before .before .before .loop2 .inv .1 .laid .can (c .before .if5 .taken)), c .before .if5 .taken, rw (c .part-at .ensures) (c .before .before .before .before .before .before .new-profile .ensures ∙ sym (alone-at (stepOf (c .before .before .before .before .before .before)) _)))
+    let w = c .before .before .before in
+    let more = c .before .if5 .taken in
+    (rw (c .part-at .ensures) (w .walk .inv .1 .laid .can more), more, rw (c .part-at .ensures) (walking w .new-profile .ensures ∙ sym (alone-at (stepOf (walking w)) _)))
 
 -- the next piece is one of the row at hand
-next-is : (c : tie.After-next-piece Inv-loop μ-loop Inv-loop3 μ-loop3 Inv-loop4 μ-loop4 Inv-loop2 μ-loop2 Inv-loop5 μ-loop5 Inv-parts μ-parts) → NextPiece (stepOf (c .before .before .before .before .before .before .before) .taking) (partAt (stepOf (c .before .before .before .before .before .before .before)) (c .before .before .before .before .loop2 .came)) (c .before .before .before .before .loop2 .row) (c .before .before .before .before .loop2 .j) (c .next-piece .result)
-next-is c =
-    rw (c .before .part-at .ensures) at (c .next-piece .ensures)
+next-is : (c : At tie.After-next-piece) → NextPiece (stepOf (walking (piecing c)) .taking) (partAt (stepOf (walking (piecing c))) (piecing c .walk .reached-before)) (piecing c .walk .row) (piecing c .walk .piece-number) (c .next-piece .result)
+next-is c = rw (c .before .part-at .ensures) at (c .next-piece .ensures)
 
--- over a second row, or without a place, it is over
-two-rows : (c : tie.Then8 Inv-loop μ-loop Inv-loop3 μ-loop3 Inv-loop4 μ-loop4 Inv-loop2 μ-loop2 Inv-loop5 μ-loop5 Inv-parts μ-parts) → overAll (c .before .before .before .before .before .before .before .before .before .before .before .before .before .before .before .before .before .before .before .before .before .before .before .get-mandatory-part-adjustments .result) (c .before .before .before .before .before .before .before .before .before .before .before .before .before .before .before .before .before .before .before .before .before .before .before .before .args .table) ≡ true
-two-rows c =
-    let l = c .before .before .before .before .before .before .before .loop2 in
-    l .inv .0 .over (two-ahead (l .inv .1) _ (next-is (c .before .before .before)) (c .before .before .before .before .before .if5 .taken) (c .before .before .if6 .taken) (omega (arith, c .if8 .taken)) (c .before .if7 .taken))
+more : (c : At tie.After-next-piece) → piecing c .walk .piece-number < 4
+more c = c .before .before .if5 .taken
 
-piece-too-many : (c : tie.Then11 Inv-loop μ-loop Inv-loop3 μ-loop3 Inv-loop4 μ-loop4 Inv-loop2 μ-loop2 Inv-loop5 μ-loop5 Inv-parts μ-parts) → overAll (c .before .before .before .before .before .before .before .before .before .before .before .before .before .before .before .before .before .before .before .before .before .before .before .get-mandatory-part-adjustments .result) (c .before .before .before .before .before .before .before .before .before .before .before .before .before .before .before .before .before .before .before .before .before .before .before .before .args .table) ≡ true
-piece-too-many c =
-    let l = c .before .before .before .before .before .before .before .loop2 in
-    l .inv .0 .over (no-place (l .inv .1) _ (next-is (c .before .before .before)) (c .before .before .before .before .before .if5 .taken) (c .before .before .if6 .taken) (omega arith))
+-- the row that is parked is one of the table's
+mul-parked : At tie.Need-mul-parked
+mul-parked c = omega (arith, c .before .before .if7 .taken, piecing (parking c) .walk .inv .1 .laid .unread .clean .fits)
 
-mul-held : tie.Need-mul-held Inv-loop μ-loop Inv-loop3 μ-loop3 Inv-loop4 μ-loop4 Inv-loop2 μ-loop2 Inv-loop5 μ-loop5 Inv-parts μ-parts
-mul-held c = omega (arith, c .before .before .if7 .taken, c .before .before .before .before .before .before .before .before .loop2 .inv .1 .laid .unread .clean .fits)
+array-copy-out-parked : At tie.Need-array-copy-out-parked
+array-copy-out-parked c = omega (arith, c .before .before .if7 .taken, piecing (parking c) .walk .inv .1 .laid .unread .clean .fits)
 
-array-copy-out-held : tie.Need-array-copy-out-held Inv-loop μ-loop Inv-loop3 μ-loop3 Inv-loop4 μ-loop4 Inv-loop2 μ-loop2 Inv-loop5 μ-loop5 Inv-parts μ-parts
-array-copy-out-held c = omega (arith, c .before .before .if7 .taken, c .before .before .before .before .before .before .before .before .loop2 .inv .1 .laid .unread .clean .fits)
+-- ROWS GO TO THE END OF THE TABLE
+raise-holds : At tie.Need-raise-holds
+raise-holds c =
+    let parked = c .before .before in
+    let size = laid-size (piecing (parking parked) .walk .inv .1 .laid) in
+    (raised-start size (c .if10 .taken), omega (arith, parked .before .before .if7 .taken), size)
 
-loop3-holds : tie.Need-loop3-holds Inv-loop μ-loop Inv-loop3 μ-loop3 Inv-loop4 μ-loop4 Inv-loop2 μ-loop2 Inv-loop5 μ-loop5 Inv-parts μ-parts
-loop3-holds c = (raised-start (laid-size (c .before .before .before .before .before .before .before .before .before .before .loop2 .inv .1 .laid)) (c .if10 .taken), omega (arith, c .before .before .before .before .if7 .taken), laid-size (c .before .before .before .before .before .before .before .before .before .before .loop2 .inv .1 .laid))
+sub-count : At tie.Need-sub-count
+sub-count c = omega (arith, c .raise-test .taken)
 
-sub-count : tie.Need-sub-count Inv-loop μ-loop Inv-loop3 μ-loop3 Inv-loop4 μ-loop4 Inv-loop2 μ-loop2 Inv-loop5 μ-loop5 Inv-parts μ-parts
-sub-count c = omega (arith, c .loop3-test .taken)
+sub-top : At tie.Need-sub-top
+sub-top c = let z = c .before .raise .inv .0 in omega (arith, z .level, z .room)
 
-sub-top : tie.Need-sub-top Inv-loop μ-loop Inv-loop3 μ-loop3 Inv-loop4 μ-loop4 Inv-loop2 μ-loop2 Inv-loop5 μ-loop5 Inv-parts μ-parts
-sub-top c = omega (arith, c .before .loop3 .inv .0 .level, c .before .loop3 .inv .0 .room)
+mul-moved : At tie.Need-mul-moved
+mul-moved c = let z = c .before .raise .inv .0 in omega (arith, z .within, z .room)
 
-mul-moved : tie.Need-mul-moved Inv-loop μ-loop Inv-loop3 μ-loop3 Inv-loop4 μ-loop4 Inv-loop2 μ-loop2 Inv-loop5 μ-loop5 Inv-parts μ-parts
-mul-moved c = omega (arith, c .before .loop3 .inv .0 .within, c .before .loop3 .inv .0 .room)
+array-copy-out-moved : At tie.Need-array-copy-out-moved
+array-copy-out-moved c = let z = c .before .raise .inv .0 in omega (arith, z .within, z .room)
 
-array-copy-out-moved : tie.Need-array-copy-out-moved Inv-loop μ-loop Inv-loop3 μ-loop3 Inv-loop4 μ-loop4 Inv-loop2 μ-loop2 Inv-loop5 μ-loop5 Inv-parts μ-parts
-array-copy-out-moved c = omega (arith, c .before .loop3 .inv .0 .within, c .before .loop3 .inv .0 .room)
+mul-rows : At tie.Need-mul-rows
+mul-rows c = let z = c .before .before .raise .inv .0 in omega (arith, z .within, z .level)
 
-mul-rows : tie.Need-mul-rows Inv-loop μ-loop Inv-loop3 μ-loop3 Inv-loop4 μ-loop4 Inv-loop2 μ-loop2 Inv-loop5 μ-loop5 Inv-parts μ-parts
-mul-rows c = omega (arith, c .before .before .loop3 .inv .0 .within, c .before .before .loop3 .inv .0 .level)
+array-set-from-rows : At tie.Need-array-set-from-rows
+array-set-from-rows c = let z = c .before .before .raise .inv .0 in omega (arith, z .within, z .level, z .room)
 
-array-set-from-rows : tie.Need-array-set-from-rows Inv-loop μ-loop Inv-loop3 μ-loop3 Inv-loop4 μ-loop4 Inv-loop2 μ-loop2 Inv-loop5 μ-loop5 Inv-parts μ-parts
-array-set-from-rows c = omega (arith, c .before .before .loop3 .inv .0 .within, c .before .before .loop3 .inv .0 .level, c .before .before .loop3 .inv .0 .room)
+raise-less : At tie.Need-raise-less
+raise-less c = omega (arith, c .before .raise-test .taken)
 
-loop3-less : tie.Need-loop3-less Inv-loop μ-loop Inv-loop3 μ-loop3 Inv-loop4 μ-loop4 Inv-loop2 μ-loop2 Inv-loop5 μ-loop5 Inv-parts μ-parts
-loop3-less c = omega (arith, c .before .loop3-test .taken)
+raise-again : At tie.Need-raise-again
+raise-again c =
+    let l = c .before .before .raise in
+    let some = c .before .raise-test .taken in
+    (raised-more (l .inv .2) noRow (l .inv .0) (omega (arith, some)), omega (arith, some), l .inv .2)
 
-loop3-again : tie.Need-loop3-again Inv-loop μ-loop Inv-loop3 μ-loop3 Inv-loop4 μ-loop4 Inv-loop2 μ-loop2 Inv-loop5 μ-loop5 Inv-parts μ-parts
-loop3-again c =
-    let l = c .before .before .loop3 in
-    (raised-more (l .inv .2) noRow (l .inv .0) (omega (arith, c .before .loop3-test .taken)), omega (arith, c .before .loop3-test .taken), l .inv .2)
-
--- the piece has a place: that of a row that is read; that of one that is in hand, in a full table; or one before the rows that have gone to the end
-placed : (c : tie.Joined7 Inv-loop μ-loop Inv-loop3 μ-loop3 Inv-loop4 μ-loop4 Inv-loop2 μ-loop2 Inv-loop5 μ-loop5 Inv-parts μ-parts) → Walked (stepOf (c .before .before .before .before .before .before .before .before .before)) (stepped (stepOf (c .before .before .before .before .before .before .before .before .before)) (stepOf (c .before .before .before .before .before .before .before .before .before) .part .from) (rowsOf (tabled (c .before .before .before .before .before .before .before .before .before .before .before .before .before .parts .rows) (c .before .before .before .before .before .before .before .before .before .before .before .before .before .parts .count)))) (c .if7 .held) (set (c .if7 .rows) (c .before .before .before .before .before .before .loop2 .n) (c .before .before .next-piece .result .row)) (c .before .before .before .before .before .before .loop2 .n + 1) (c .before .before .before .before .before .before .loop2 .from) (c .if7 .count) (c .if7 .i) (c .before .before .before .before .before .before .loop2 .row) (c .before .before .before .before .before .before .loop2 .came) (c .before .before .next-piece .result .next)
-    × (c .before .before .before .before .before .before .loop2 .n < 128) × (c .if7 .count - c .if7 .i ≡ c .before .before .before .before .before .before .loop2 .count - c .before .before .before .before .before .before .loop2 .i)
+-- THE PIECE IS WRITTEN
+-- it has a place: that of a row that is read; that of one that is parked, in a full table; or one before the rows that have gone to the end
+placed : (c : At tie.Joined7)
+    → let p = c .before .before in
+    let l = piecing p .walk in
+    Walked (stepOf (walking (piecing p))) (whole (piecing p)) (c .if7 .parked) (set (c .if7 .rows) (l .write) (p .next-piece .result .row)) (l .write + 1) (l .reached) (c .if7 .count) (c .if7 .read) (l .row) (l .reached-before) (p .next-piece .result .next)
+    × (l .write < 128) × (c .if7 .count - c .if7 .read ≡ l .count - l .read)
 placed c =
-    let l = c .before .before .before .before .before .before .loop2 in
-    let next = next-is (c .before .before) in
-    let more = c .before .before .before .before .if5 .taken in
+    let p = c .before .before in
+    let l = piecing p .walk in
+    let next = next-is p in
     let some = c .before .if6 .taken in
     let d = l .inv .1 .laid in
     ⊎-elim
     (λ w.
     let z = w .5 .inv .0 in
     rw (w .7, w .8, w .9, w .10)
-    (walked-raised (l .inv .1) _ next more some _ (w .2 .taken) z (omega (arith, w .5 .inv .1, w .6 .left)), omega (arith, d .unread .clean .fits, w .0 .taken, w .2 .taken), omega (arith, z .level, z .room, w .5 .inv .1, w .6 .left)))
+    (walked-raised (l .inv .1) _ next (more p) some _ (w .2 .taken) z (omega (arith, w .5 .inv .1, w .6 .left)), omega (arith, d .unread .clean .fits, w .0 .taken, w .2 .taken), omega (arith, z .level, z .room, w .5 .inv .1, w .6 .left)))
     (⊎-elim
     (λ w. rw (w .5, w .6, w .7, w .8)
-    (walked-over (l .inv .1) _ next more some (w .2 .taken) (w .0 .taken) (omega (arith, w .4 .left)), omega (arith, d .unread .clean .fits, w .0 .taken, w .2 .taken), refl))
+    (walked-over (l .inv .1) _ next (more p) some (w .2 .taken) (w .0 .taken) (omega (arith, w .4 .left)), omega (arith, d .unread .clean .fits, w .0 .taken, w .2 .taken), refl))
     (⊎-elim
     (λ w.
-    let less : l .n < l .i = omega (arith, w .1 .left, w .2 .left) in
-    let room : l .n < 128 = omega (arith, d .unread .clean .fits, w .0 .taken) in
-    rw (w .3, w .4, w .5, w .6) (walked-piece (l .inv .1) _ next more some room (λ lt. less), room, refl))
+    let less : l .write < l .read = omega (arith, w .1 .left, w .2 .left) in
+    let room : l .write < 128 = omega (arith, d .unread .clean .fits, w .0 .taken) in
+    rw (w .3, w .4, w .5, w .6) (walked-piece (l .inv .1) _ next (more p) some room (λ lt. less), room, refl))
     (λ w.
-    let room : l .n < 128 = omega (arith, d .front .fits, w .1 .left) in
-    rw (w .2, w .3, w .4, w .5) (walked-piece (l .inv .1) _ next more some room (λ lt. absurd (omega (arith, w .0 .left))), room, refl))))
+    let room : l .write < 128 = omega (arith, d .front .fits, w .1 .left) in
+    rw (w .2, w .3, w .4, w .5) (walked-piece (l .inv .1) _ next (more p) some room (λ lt. absurd (omega (arith, w .0 .left))), room, refl))))
     (c .if7 .came)
 
-mul-rows-2 : tie.Need-mul-rows-2 Inv-loop μ-loop Inv-loop3 μ-loop3 Inv-loop4 μ-loop4 Inv-loop2 μ-loop2 Inv-loop5 μ-loop5 Inv-parts μ-parts
+mul-rows-2 : At tie.Need-mul-rows-2
 mul-rows-2 c = omega (arith, placed (c .before) .1)
 
-array-set-from-rows-2 : tie.Need-array-set-from-rows-2 Inv-loop μ-loop Inv-loop3 μ-loop3 Inv-loop4 μ-loop4 Inv-loop2 μ-loop2 Inv-loop5 μ-loop5 Inv-parts μ-parts
+array-set-from-rows-2 : At tie.Need-array-set-from-rows-2
 array-set-from-rows-2 c = omega (arith, placed (c .before) .1)
 
-add-n : tie.Need-add-n Inv-loop μ-loop Inv-loop3 μ-loop3 Inv-loop4 μ-loop4 Inv-loop2 μ-loop2 Inv-loop5 μ-loop5 Inv-parts μ-parts
-add-n c = omega (arith, placed (c .before) .1)
+add-write : At tie.Need-add-write
+add-write c = omega (arith, placed (c .before) .1)
 
-loop2-less : tie.Need-loop2-less Inv-loop μ-loop Inv-loop3 μ-loop3 Inv-loop4 μ-loop4 Inv-loop2 μ-loop2 Inv-loop5 μ-loop5 Inv-parts μ-parts
-loop2-less c =
-    let next = next-is (c .before .before .before) in
-    omega (arith, placed (c .before) .2, next .on, next .upto, c .before .before .before .before .before .if5 .taken)
+walk-less : At tie.Need-walk-less
+walk-less c =
+    let p = c .before .before .before in
+    omega (arith, placed (c .before) .2, next-is p .on, next-is p .upto, more p)
 
-loop2-again : tie.Need-loop2-again Inv-loop μ-loop Inv-loop3 μ-loop3 Inv-loop4 μ-loop4 Inv-loop2 μ-loop2 Inv-loop5 μ-loop5 Inv-parts μ-parts
-loop2-again c = let l = c .before .before .before .before .before .before .before .loop2 in (l .inv .0, placed (c .before) .0, l .inv .2)
+walk-again : At tie.Need-walk-again
+walk-again c =
+    let l = piecing (c .before .before .before) .walk in
+    (l .inv .0, placed (c .before) .0, l .inv .2)
 
-loop2-less-2 : tie.Need-loop2-less-2 Inv-loop μ-loop Inv-loop3 μ-loop3 Inv-loop4 μ-loop4 Inv-loop2 μ-loop2 Inv-loop5 μ-loop5 Inv-parts μ-parts
-loop2-less-2 c = omega (arith, next-is (c .before) .on, next-is (c .before) .upto, c .before .before .before .if5 .taken)
+-- or there is none
+walk-less-2 : At tie.Need-walk-less-2
+walk-less-2 c = let p = c .before in omega (arith, next-is p .on, next-is p .upto, more p)
 
-loop2-again-2 : tie.Need-loop2-again-2 Inv-loop μ-loop Inv-loop3 μ-loop3 Inv-loop4 μ-loop4 Inv-loop2 μ-loop2 Inv-loop5 μ-loop5 Inv-parts μ-parts
-loop2-again-2 c =
-    let l = c .before .before .before .before .before .loop2 in
-    (l .inv .0, walked-none (l .inv .1) _ (next-is (c .before)) (c .before .before .before .if5 .taken) (c .if6 .left), l .inv .2)
+walk-again-2 : At tie.Need-walk-again-2
+walk-again-2 c =
+    let p = c .before in
+    let l = piecing p .walk in
+    (l .inv .0, walked-none (l .inv .1) _ (next-is p) (more p) (c .if6 .left), l .inv .2)
 
--- where no piece is left and the rows are not all read, there is a next row
-inside : (c : tie.Else5 Inv-loop μ-loop Inv-loop3 μ-loop3 Inv-loop4 μ-loop4 Inv-loop2 μ-loop2 Inv-loop5 μ-loop5 Inv-parts μ-parts) → c .before .before .loop2 .i < c .before .before .loop2 .count
+-- THE NEXT ROW
+-- where no piece is left and the rows are not all read, there is one
+inside : (c : At tie.Else5) → c .before .before .walk .read < c .before .before .walk .count
 inside c =
-    ⊎-elim (λ h. h .taken) (λ h. absurd (omega (arith, ltb-true (c .before .before .loop2 .j) 4 (h .1 .taken), c .if5 .left))) (c .before .if3 .came)
+    ⊎-elim (λ h. h .taken) (λ h. absurd (omega (arith, ltb-true (c .before .before .walk .piece-number) 4 (h .1 .taken), c .if5 .left))) (c .before .if3 .came)
 
-mul-next : tie.Need-mul-next Inv-loop μ-loop Inv-loop3 μ-loop3 Inv-loop4 μ-loop4 Inv-loop2 μ-loop2 Inv-loop5 μ-loop5 Inv-parts μ-parts
-mul-next c = omega (arith, inside c, c .before .before .loop2 .inv .1 .laid .unread .clean .fits)
+none : (c : At tie.Else5) → 4 ≤ c .before .before .walk .piece-number
+none c = c .if5 .left
 
-array-copy-out-next : tie.Need-array-copy-out-next Inv-loop μ-loop Inv-loop3 μ-loop3 Inv-loop4 μ-loop4 Inv-loop2 μ-loop2 Inv-loop5 μ-loop5 Inv-parts μ-parts
-array-copy-out-next c = omega (arith, inside c, c .before .before .loop2 .inv .1 .laid .unread .clean .fits)
+mul-next : At tie.Need-mul-next
+mul-next c = omega (arith, inside c, c .before .before .walk .inv .1 .laid .unread .clean .fits)
+
+array-copy-out-next : At tie.Need-array-copy-out-next
+array-copy-out-next c = omega (arith, inside c, c .before .before .walk .inv .1 .laid .unread .clean .fits)
 
 -- and it is the first of those that are left
-read : (c : tie.Joined12 Inv-loop μ-loop Inv-loop3 μ-loop3 Inv-loop4 μ-loop4 Inv-loop2 μ-loop2 Inv-loop5 μ-loop5 Inv-parts μ-parts) → c .if12 .next ≡ rowAt (c .before .before .before .before .loop2 .inv .1 .laid .source) (c .before .before .before .before .loop2 .i)
-read c =
-    let l = c .before .before .before .before .loop2 in
-    ⊎-elim (λ w. w .1 ∙ l .inv .1 .kept (w .0 .taken) (inside (c .before .before)) .0) (λ w. w .1 ∙ front-behind (l .inv .1 .laid .front) _ (l .i) (w .0 .left)) (c .if12 .came)
+first-left : (c : At tie.Joined12) → let l = reading c .before .before .walk in c .if12 .next ≡ rowAt (l .inv .1 .laid .source) (l .read)
+first-left c =
+    let l = reading c .before .before .walk in
+    ⊎-elim (λ w. w .1 ∙ l .inv .1 .kept (w .0 .taken) (inside (reading c)) .0) (λ w. w .1 ∙ front-behind (l .inv .1 .laid .front) _ (l .read) (w .0 .left)) (c .if12 .came)
 
-is-untouched-requires : tie.Need-is-untouched-requires Inv-loop μ-loop Inv-loop3 μ-loop3 Inv-loop4 μ-loop4 Inv-loop2 μ-loop2 Inv-loop5 μ-loop5 Inv-parts μ-parts
+is-untouched-requires : At tie.Need-is-untouched-requires
 is-untouched-requires c κs = search needs
 
-instant-behind-requires : tie.Need-instant-behind-requires Inv-loop μ-loop Inv-loop3 μ-loop3 Inv-loop4 μ-loop4 Inv-loop2 μ-loop2 Inv-loop5 μ-loop5 Inv-parts μ-parts
+-- it falls into pieces
+instant-behind-requires : At tie.Need-instant-behind-requires
 instant-behind-requires c κs =
-    let l = c .before .before .before .before .before .before .loop2 in
-    rw (read (c .before .before)) (next-lies (l .inv .1) (omega (arith, c .before .before .before .before .if5 .left)) (inside (c .before .before .before .before)))
+    let j = c .before .before in
+    let r = reading j in
+    rw (first-left j) (next-lies (r .before .before .walk .inv .1) (none r) (inside r))
 
-add-i : tie.Need-add-i Inv-loop μ-loop Inv-loop3 μ-loop3 Inv-loop4 μ-loop4 Inv-loop2 μ-loop2 Inv-loop5 μ-loop5 Inv-parts μ-parts
-add-i c = omega (arith, inside (c .before .before .before .before .before), c .before .before .before .before .before .before .before .loop2 .inv .1 .laid .unread .clean .fits)
+add-read : At tie.Need-add-read
+add-read c =
+    let r = reading (c .before .before .before) in
+    omega (arith, inside r, r .before .before .walk .inv .1 .laid .unread .clean .fits)
 
-loop2-less-3 : tie.Need-loop2-less-3 Inv-loop μ-loop Inv-loop3 μ-loop3 Inv-loop4 μ-loop4 Inv-loop2 μ-loop2 Inv-loop5 μ-loop5 Inv-parts μ-parts
-loop2-less-3 c = omega (arith, inside (c .before .before .before .before .before), c .before .before .before .before .before .if5 .left)
+walk-less-3 : At tie.Need-walk-less-3
+walk-less-3 c = let r = reading (c .before .before .before) in omega (arith, inside r, none r)
 
-loop2-again-3 : tie.Need-loop2-again-3 Inv-loop μ-loop Inv-loop3 μ-loop3 Inv-loop4 μ-loop4 Inv-loop2 μ-loop2 Inv-loop5 μ-loop5 Inv-parts μ-parts
-loop2-again-3 c =
-    let l = c .before .before .before .before .before .before .before .loop2 in
-    (l .inv .0, rw (c .instant-behind .ensures, read (c .before .before .before)) (walked-cut (l .inv .1) (omega (arith, c .before .before .before .before .before .if5 .left)) (inside (c .before .before .before .before .before))), l .inv .2)
+walk-again-3 : At tie.Need-walk-again-3
+walk-again-3 c =
+    let j = c .before .before .before in
+    let r = reading j in
+    let l = r .before .before .walk in
+    (l .inv .0, rw (c .instant-behind .ensures, first-left j) (walked-cut (l .inv .1) (none r) (inside r)), l .inv .2)
 
 -- the part does not touch it
-stays : (c : tie.Else13 Inv-loop μ-loop Inv-loop3 μ-loop3 Inv-loop4 μ-loop4 Inv-loop2 μ-loop2 Inv-loop5 μ-loop5 Inv-parts μ-parts) → untouched (stepOf (c .before .before .before .before .before .before .before .before .before)) (c .before .before .before .before .before .before .loop2 .from) (rowAt (c .before .before .before .before .before .before .loop2 .inv .1 .laid .source) (c .before .before .before .before .before .before .loop2 .i)) ≡ true
+stays : (c : At tie.Else13)
+    → let w = reading (staying c) .before .before in
+    untouched (stepOf (walking w)) (w .walk .reached) (rowAt (w .walk .inv .1 .laid .source) (w .walk .read)) ≡ true
 stays c =
-    ap (untouched (stepOf (c .before .before .before .before .before .before .before .before .before)) (c .before .before .before .before .before .before .loop2 .from)) (sym (read (c .before .before))) ∙ sym (c .before .is-untouched .ensures) ∙ not-false _ (c .if13 .left)
+    let w = reading (staying c) .before .before in
+    ap (untouched (stepOf (walking w)) (w .walk .reached)) (sym (first-left (staying c))) ∙ sym (c .before .is-untouched .ensures) ∙ not-false _ (c .if13 .left)
 
--- without a place it is over
-row-too-many : (c : tie.Then14 Inv-loop μ-loop Inv-loop3 μ-loop3 Inv-loop4 μ-loop4 Inv-loop2 μ-loop2 Inv-loop5 μ-loop5 Inv-parts μ-parts) → overAll (c .before .before .before .before .before .before .before .before .before .before .before .before .before .before .before .before .before .before .before .before .before .before .before .get-mandatory-part-adjustments .result) (c .before .before .before .before .before .before .before .before .before .before .before .before .before .before .before .before .before .before .before .before .before .before .before .before .args .table) ≡ true
-row-too-many c =
-    let l = c .before .before .before .before .before .before .before .loop2 in
-    l .inv .0 .over (rest-over (l .inv .1) (omega (arith, c .before .before .before .before .before .if5 .left)) (inside (c .before .before .before .before .before)) (stays (c .before)) (c .if14 .taken))
+-- it stays in its place, with all rows behind it
+walk-less-4 : At tie.Need-walk-less-4
+walk-less-4 c = omega (arith, inside (reading (staying (c .before .before))))
 
-loop2-less-4 : tie.Need-loop2-less-4 Inv-loop μ-loop Inv-loop3 μ-loop3 Inv-loop4 μ-loop4 Inv-loop2 μ-loop2 Inv-loop5 μ-loop5 Inv-parts μ-parts
-loop2-less-4 c = omega (arith, inside (c .before .before .before .before .before .before))
-
-loop2-again-4 : tie.Need-loop2-again-4 Inv-loop μ-loop Inv-loop3 μ-loop3 Inv-loop4 μ-loop4 Inv-loop2 μ-loop2 Inv-loop5 μ-loop5 Inv-parts μ-parts
-loop2-again-4 c =
-    let l = c .before .before .before .before .before .before .before .before .loop2 in
-    (l .inv .0, walked-rests (l .inv .1) (omega (arith, c .before .before .before .before .before .before .if5 .left)) (inside (c .before .before .before .before .before .before)) (stays (c .before .before)) (c .if15 .taken), l .inv .2)
+walk-again-4 : At tie.Need-walk-again-4
+walk-again-4 c =
+    let s = c .before .before in
+    let r = reading (staying s) in
+    let l = r .before .before .walk in
+    (l .inv .0, walked-rests (l .inv .1) (none r) (inside r) (stays s) (c .if15 .taken), l .inv .2)
 
 -- or it moves down, with all rows behind it
-entered : (c : tie.Else15 Inv-loop μ-loop Inv-loop3 μ-loop3 Inv-loop4 μ-loop4 Inv-loop2 μ-loop2 Inv-loop5 μ-loop5 Inv-parts μ-parts) → Moves (stepOf (c .before .before .before .before .before .before .before .before .before .before .before)) (stepped (stepOf (c .before .before .before .before .before .before .before .before .before .before .before)) (stepOf (c .before .before .before .before .before .before .before .before .before .before .before) .part .from) (rowsOf (tabled (c .before .before .before .before .before .before .before .before .before .before .before .before .before .before .before .parts .rows) (c .before .before .before .before .before .before .before .before .before .before .before .before .before .before .before .parts .count)))) (c .before .before .before .before .before .before .before .before .loop2 .rows) (c .before .before .before .before .before .before .before .before .loop2 .n) (c .before .before .before .before .before .before .before .before .loop2 .from) (c .before .before .before .before .before .before .before .before .loop2 .count) (c .before .before .before .before .before .before .before .before .loop2 .i) (c .before .before .before .before .before .before .before .before .loop2 .row) (c .before .before .before .before .before .before .before .before .loop2 .came) (c .before .before .before .before .before .before .before .before .loop2 .j)
-entered c = moves-start (c .before .before .before .before .before .before .before .before .loop2 .inv .1) (omega (arith, c .before .before .before .before .before .before .if5 .left)) (inside (c .before .before .before .before .before .before)) (stays (c .before .before)) (omega (arith, c .before .if14 .left))
+entered : (c : At tie.Else15)
+    → let w = reading (staying (lowering c)) .before .before in
+    let l = w .walk in
+    Moves (stepOf (walking w)) (whole w) (l .rows) (l .write) (l .reached) (l .count) (l .read) (l .row) (l .reached-before) (l .piece-number)
+entered c =
+    let s = lowering c in
+    let r = reading (staying s) in
+    moves-start (r .before .before .walk .inv .1) (none r) (inside r) (stays s) (omega (arith, c .before .if14 .left))
 
-loop4-holds : tie.Need-loop4-holds Inv-loop μ-loop Inv-loop3 μ-loop3 Inv-loop4 μ-loop4 Inv-loop2 μ-loop2 Inv-loop5 μ-loop5 Inv-parts μ-parts
-loop4-holds c = λ whole m. m
+lower-holds : At tie.Need-lower-holds
+lower-holds c = λ whole m. m
 
-loop2-less-5 : tie.Need-loop2-less-5 Inv-loop μ-loop Inv-loop3 μ-loop3 Inv-loop4 μ-loop4 Inv-loop2 μ-loop2 Inv-loop5 μ-loop5 Inv-parts μ-parts
-loop2-less-5 c = omega (arith, inside (c .before .before .before .before .before .before .before .before), c .loop4-test .left)
+-- how far they have moved
+moves : (c : At tie.At-lower)
+    → let w = reading (staying (lowering (c .before))) .before .before in
+    let l = w .walk in
+    Moves (stepOf (walking w)) (whole w) (c .lower .rows) (c .lower .write) (l .reached) (l .count) (c .lower .read) (l .row) (l .reached-before) (l .piece-number)
+moves c = c .lower .inv _ (entered (c .before))
 
-loop2-again-5 : tie.Need-loop2-again-5 Inv-loop μ-loop Inv-loop3 μ-loop3 Inv-loop4 μ-loop4 Inv-loop2 μ-loop2 Inv-loop5 μ-loop5 Inv-parts μ-parts
-loop2-again-5 c =
-    let l = c .before .before .before .before .before .before .before .before .before .before .loop2 in
-    (l .inv .0, walked-moved _ (c .before .loop4 .inv _ (entered (c .before .before))) (omega (arith, c .loop4-test .left)), l .inv .2)
+walk-less-5 : At tie.Need-walk-less-5
+walk-less-5 c = omega (arith, inside (reading (staying (lowering (c .before .before)))), c .lower-test .left)
 
-mul-moved-2 : tie.Need-mul-moved-2 Inv-loop μ-loop Inv-loop3 μ-loop3 Inv-loop4 μ-loop4 Inv-loop2 μ-loop2 Inv-loop5 μ-loop5 Inv-parts μ-parts
-mul-moved-2 c = omega (arith, c .loop4-test .taken, (c .before .loop4 .inv _ (entered (c .before .before))) .laid .unread .clean .fits)
+walk-again-5 : At tie.Need-walk-again-5
+walk-again-5 c =
+    let l = reading (staying (lowering (c .before .before))) .before .before .walk in
+    (l .inv .0, walked-moved _ (moves (c .before)) (omega (arith, c .lower-test .left)), l .inv .2)
 
-array-copy-out-moved-2 : tie.Need-array-copy-out-moved-2 Inv-loop μ-loop Inv-loop3 μ-loop3 Inv-loop4 μ-loop4 Inv-loop2 μ-loop2 Inv-loop5 μ-loop5 Inv-parts μ-parts
-array-copy-out-moved-2 c = omega (arith, c .loop4-test .taken, (c .before .loop4 .inv _ (entered (c .before .before))) .laid .unread .clean .fits)
+mul-moved-2 : At tie.Need-mul-moved-2
+mul-moved-2 c = omega (arith, c .lower-test .taken, moves (c .before) .laid .unread .clean .fits)
 
-mul-rows-3 : tie.Need-mul-rows-3 Inv-loop μ-loop Inv-loop3 μ-loop3 Inv-loop4 μ-loop4 Inv-loop2 μ-loop2 Inv-loop5 μ-loop5 Inv-parts μ-parts
-mul-rows-3 c = omega (arith, (c .before .before .loop4 .inv _ (entered (c .before .before .before))) .laid .front .fits)
+array-copy-out-moved-2 : At tie.Need-array-copy-out-moved-2
+array-copy-out-moved-2 c = omega (arith, c .lower-test .taken, moves (c .before) .laid .unread .clean .fits)
 
-array-set-from-rows-3 : tie.Need-array-set-from-rows-3 Inv-loop μ-loop Inv-loop3 μ-loop3 Inv-loop4 μ-loop4 Inv-loop2 μ-loop2 Inv-loop5 μ-loop5 Inv-parts μ-parts
-array-set-from-rows-3 c = omega (arith, c .before .loop4-test .taken, (c .before .before .loop4 .inv _ (entered (c .before .before .before))) .level, (c .before .before .loop4 .inv _ (entered (c .before .before .before))) .laid .unread .clean .fits)
+mul-rows-3 : At tie.Need-mul-rows-3
+mul-rows-3 c = omega (arith, moves (c .before .before) .laid .front .fits)
 
-add-n-2 : tie.Need-add-n-2 Inv-loop μ-loop Inv-loop3 μ-loop3 Inv-loop4 μ-loop4 Inv-loop2 μ-loop2 Inv-loop5 μ-loop5 Inv-parts μ-parts
-add-n-2 c = omega (arith, (c .before .before .loop4 .inv _ (entered (c .before .before .before))) .laid .front .fits)
+array-set-from-rows-3 : At tie.Need-array-set-from-rows-3
+array-set-from-rows-3 c = let m = moves (c .before .before) in omega (arith, c .before .lower-test .taken, m .level, m .laid .unread .clean .fits)
 
-add-i-2 : tie.Need-add-i-2 Inv-loop μ-loop Inv-loop3 μ-loop3 Inv-loop4 μ-loop4 Inv-loop2 μ-loop2 Inv-loop5 μ-loop5 Inv-parts μ-parts
-add-i-2 c = omega (arith, c .before .loop4-test .taken, (c .before .before .loop4 .inv _ (entered (c .before .before .before))) .laid .unread .clean .fits)
+add-write-2 : At tie.Need-add-write-2
+add-write-2 c = omega (arith, moves (c .before .before) .laid .front .fits)
 
-loop4-less : tie.Need-loop4-less Inv-loop μ-loop Inv-loop3 μ-loop3 Inv-loop4 μ-loop4 Inv-loop2 μ-loop2 Inv-loop5 μ-loop5 Inv-parts μ-parts
-loop4-less c = omega (arith, c .before .loop4-test .taken)
+add-read-2 : At tie.Need-add-read-2
+add-read-2 c = omega (arith, c .before .lower-test .taken, moves (c .before .before) .laid .unread .clean .fits)
 
-loop4-again : tie.Need-loop4-again Inv-loop μ-loop Inv-loop3 μ-loop3 Inv-loop4 μ-loop4 Inv-loop2 μ-loop2 Inv-loop5 μ-loop5 Inv-parts μ-parts
-loop4-again c = λ whole m. moves-on (c .before .before .loop4 .inv whole m) (c .before .loop4-test .taken)
+lower-less : At tie.Need-lower-less
+lower-less c = omega (arith, c .before .lower-test .taken)
 
-last-profile-requires : tie.Need-last-profile-requires Inv-loop μ-loop Inv-loop3 μ-loop3 Inv-loop4 μ-loop4 Inv-loop2 μ-loop2 Inv-loop5 μ-loop5 Inv-parts μ-parts
-last-profile-requires c κs = c .before .before .before .before .before .new-profile .ensures
+lower-again : At tie.Need-lower-again
+lower-again c = λ whole m. moves-on (c .before .before .lower .inv whole m) (c .before .lower-test .taken)
 
--- what lies behind the last row is over without a place too
-last-too-many : (c : tie.Then17 Inv-loop μ-loop Inv-loop3 μ-loop3 Inv-loop4 μ-loop4 Inv-loop2 μ-loop2 Inv-loop5 μ-loop5 Inv-parts μ-parts) → overAll (c .before .before .before .before .before .before .before .before .before .before .before .before .before .before .before .before .before .before .before .before .before .get-mandatory-part-adjustments .result) (c .before .before .before .before .before .before .before .before .before .before .before .before .before .before .before .before .before .before .before .before .before .before .args .table) ≡ true
-last-too-many c =
-    let l = c .before .before .before .before .before .loop2 in
-    l .inv .0 .over
-    (last-over (l .inv .1 .laid) (ltb-false _ _ (c .before .before .before .if4 .left)) (omega (arith, c .before .before .before .before .if3 .left)) _ (c .before .before .last-profile .ensures) (c .before .if16 .taken) (omega arith))
+-- BEHIND THE LAST ROW
+last-profile-requires : At tie.Need-last-profile-requires
+last-profile-requires c κs = walking (c .before .before) .new-profile .ensures
 
-mul-rows-4 : tie.Need-mul-rows-4 Inv-loop μ-loop Inv-loop3 μ-loop3 Inv-loop4 μ-loop4 Inv-loop2 μ-loop2 Inv-loop5 μ-loop5 Inv-parts μ-parts
-mul-rows-4 c = omega (arith, c .before .before .before .before .before .before .loop2 .inv .1 .laid .front .fits)
+mul-rows-4 : At tie.Need-mul-rows-4
+mul-rows-4 c = omega (arith, ending (c .before .before .before) .walk .inv .1 .laid .front .fits)
 
-array-set-from-rows-4 : tie.Need-array-set-from-rows-4 Inv-loop μ-loop Inv-loop3 μ-loop3 Inv-loop4 μ-loop4 Inv-loop2 μ-loop2 Inv-loop5 μ-loop5 Inv-parts μ-parts
-array-set-from-rows-4 c = omega (arith, c .before .before .before .before .before .before .loop2 .inv .1 .laid .front .fits, c .before .if17 .left)
+array-set-from-rows-4 : At tie.Need-array-set-from-rows-4
+array-set-from-rows-4 c = omega (arith, ending (c .before .before .before) .walk .inv .1 .laid .front .fits, c .before .if17 .left)
 
-add-n-3 : tie.Need-add-n-3 Inv-loop μ-loop Inv-loop3 μ-loop3 Inv-loop4 μ-loop4 Inv-loop2 μ-loop2 Inv-loop5 μ-loop5 Inv-parts μ-parts
-add-n-3 c = omega (arith, c .before .before .before .before .before .before .loop2 .inv .1 .laid .front .fits)
+add-write-3 : At tie.Need-add-write-3
+add-write-3 c = omega (arith, ending (c .before .before .before) .walk .inv .1 .laid .front .fits)
 
-loop5-holds : tie.Need-loop5-holds Inv-loop μ-loop Inv-loop3 μ-loop3 Inv-loop4 μ-loop4 Inv-loop2 μ-loop2 Inv-loop5 μ-loop5 Inv-parts μ-parts
-loop5-holds c =
-    let l = c .before .before .before .before .loop2 in
+clear-holds : At tie.Need-clear-holds
+clear-holds c =
+    let e = c .before in
+    let l = ending e .walk in
     let d = l .inv .1 .laid in
-    let none = ltb-false _ _ (c .before .before .if4 .left) in
-    let all : l .count ≤ l .i = omega (arith, c .before .before .before .if3 .left) in
-    let whole : Front 128 (d .source) (c .if16 .rows) (c .if16 .n) (stepped (stepOf (c .before .before .before .before .before .before .before)) (stepOf (c .before .before .before .before .before .before .before) .part .from) (rowsOf (tabled (c .before .before .before .before .before .before .before .before .before .before .before .parts .rows) (c .before .before .before .before .before .before .before .before .before .before .before .parts .count)))) =
+    let none : 4 ≤ l .piece-number = ltb-false _ _ (e .before .if4 .left) in
+    let all : l .count ≤ l .read = omega (arith, e .before .before .if3 .left) in
+    let made : Front 128 (d .source) (c .if16 .rows) (c .if16 .write) (whole (ending e)) =
     ⊎-elim
-    (λ w. rw (w .3, w .4) (last-some d none all _ (c .before .last-profile .ensures) (w .0 .taken) (omega (arith, d .front .fits, w .1 .left))))
-    (λ w. rw (w .1, w .2) (last-none d none all _ (c .before .last-profile .ensures) (w .0 .left)))
+    (λ w. rw (w .3, w .4) (last-some d none all _ (e .last-profile .ensures) (w .0 .taken) (omega (arith, d .front .fits, w .1 .left))))
+    (λ w. rw (w .1, w .2) (last-none d none all _ (e .last-profile .ensures) (w .0 .left)))
     (c .if16 .came) in
-    (d .unread .clean .fits, record { whole = _; next = l .inv .0 .next; cleared = clear-start (tabled (d .source) (l .count)) (d .unread .clean) whole })
+    (d .unread .clean .fits, record { whole = _; next = l .inv .0 .next; cleared = clear-start (tabled (d .source) (l .count)) (d .unread .clean) made })
 
-mul-rows-5 : tie.Need-mul-rows-5 Inv-loop μ-loop Inv-loop3 μ-loop3 Inv-loop4 μ-loop4 Inv-loop2 μ-loop2 Inv-loop5 μ-loop5 Inv-parts μ-parts
-mul-rows-5 c = omega (arith, c .before .before .loop5 .inv .0)
+mul-rows-5 : At tie.Need-mul-rows-5
+mul-rows-5 c = omega (arith, c .before .before .clear .inv .0)
 
-array-set-from-rows-5 : tie.Need-array-set-from-rows-5 Inv-loop μ-loop Inv-loop3 μ-loop3 Inv-loop4 μ-loop4 Inv-loop2 μ-loop2 Inv-loop5 μ-loop5 Inv-parts μ-parts
-array-set-from-rows-5 c = omega (arith, c .before .before .loop5 .inv .0)
+array-set-from-rows-5 : At tie.Need-array-set-from-rows-5
+array-set-from-rows-5 c = omega (arith, c .before .before .clear .inv .0)
 
-add-at : tie.Need-add-at Inv-loop μ-loop Inv-loop3 μ-loop3 Inv-loop4 μ-loop4 Inv-loop2 μ-loop2 Inv-loop5 μ-loop5 Inv-parts μ-parts
-add-at c = omega (arith, c .before .before .loop5 .inv .0)
+add-place : At tie.Need-add-place
+add-place c = omega (arith, c .before .before .clear .inv .0)
 
-loop5-less : tie.Need-loop5-less Inv-loop μ-loop Inv-loop3 μ-loop3 Inv-loop4 μ-loop4 Inv-loop2 μ-loop2 Inv-loop5 μ-loop5 Inv-parts μ-parts
-loop5-less c = omega arith
+clear-less : At tie.Need-clear-less
+clear-less c = omega arith
 
-loop5-again : tie.Need-loop5-again Inv-loop μ-loop Inv-loop3 μ-loop3 Inv-loop4 μ-loop4 Inv-loop2 μ-loop2 Inv-loop5 μ-loop5 Inv-parts μ-parts
-loop5-again c =
-    let q = c .before .before .loop5 .inv in
-    (q .0, record { whole = q .1 .whole; next = q .1 .next; cleared = rw (c .before .before .before .before .before .before .before .before .before .before .before .before .before .before .before .empty .ensures) (clear-more (q .1 .cleared) (omega (arith, q .0))) })
+clear-again : At tie.Need-clear-again
+clear-again c =
+    let a = c .before .before in
+    let q = a .clear .inv in
+    let blank = stepping (walking (ending (a .before .before))) .before .empty .ensures in
+    (q .0, record { whole = q .1 .whole; next = q .1 .next; cleared = rw blank (clear-more (q .1 .cleared) (omega (arith, q .0))) })
 
-add-k : tie.Need-add-k Inv-loop μ-loop Inv-loop3 μ-loop3 Inv-loop4 μ-loop4 Inv-loop2 μ-loop2 Inv-loop5 μ-loop5 Inv-parts μ-parts
-add-k c = omega (arith, c .before .before .before .before .before .before .before .before .before .before .before .before .before .parts .inv .1, c .before .before .before .before .before .before .before .before .before .before .before .before .before .parts .inv .2 .removed .fits, c .before .before .before .before .before .before .before .before .before .before .before .before .before .parts .inv .2 .added .fits)
+-- THE PART IS DONE
+add-done : At tie.Need-add-done
+add-done c =
+    let o = stepping (walking (ending (c .before .before .before))) .parts in
+    omega (arith, o .inv .1, o .inv .2 .removed .fits, o .inv .2 .added .fits)
 
-parts-less : tie.Need-parts-less Inv-loop μ-loop Inv-loop3 μ-loop3 Inv-loop4 μ-loop4 Inv-loop2 μ-loop2 Inv-loop5 μ-loop5 Inv-parts μ-parts
+parts-less : At tie.Need-parts-less
 parts-less c = omega arith
 
-parts-again : tie.Need-parts-again Inv-loop μ-loop Inv-loop3 μ-loop3 Inv-loop4 μ-loop4 Inv-loop2 μ-loop2 Inv-loop5 μ-loop5 Inv-parts μ-parts
+parts-again : At tie.Need-parts-again
 parts-again c =
-    let q = c .before .loop5 .inv in
-    (omega arith, c .before .before .before .before .before .before .before .before .before .before .before .before .before .parts .inv .1, q .1 .next _ _ (clear-all (q .1 .cleared) (omega arith)), c .before .before .before .before .before .before .loop2 .inv .2)
+    let q = c .before .clear .inv in
+    let e = ending (c .before .before .before) in
+    (omega arith, stepping (walking e) .parts .inv .1, q .1 .next _ _ (clear-all (q .1 .cleared) (omega arith)), e .walk .inv .2)
 
--- the parts are done, or one of them is over
-left : (c : tie.Left-parts Inv-loop μ-loop Inv-loop3 μ-loop3 Inv-loop4 μ-loop4 Inv-loop2 μ-loop2 Inv-loop5 μ-loop5 Inv-parts μ-parts) → ((c .parts-test .over ≡ false) × Ended (c .before .before .before .before .before .before .before .before .before .before .get-mandatory-part-adjustments .result) (c .before .before .before .before .before .before .before .before .before .before .before .args .table) false (tabled (c .parts-test .rows) (c .parts-test .count)))
-    ⊎ ((c .parts-test .over ≡ true) × (overAll (c .before .before .before .before .before .before .before .before .before .before .get-mandatory-part-adjustments .result) (c .before .before .before .before .before .before .before .before .before .before .before .args .table) ≡ true))
+-- THE ANSWER
+-- the parts are done; or one of them is over: with a piece over a second row, with one without a place, with a row without a place, or with what lies behind
+-- the last row
+left : (c : At tie.Left-parts)
+    → ((c .parts-test .over ≡ false) × Ended (parts (c .before)) (table (c .before)) false (tabled (c .parts-test .rows) (c .parts-test .count)))
+    ⊎ ((c .parts-test .over ≡ true) × (overAll (parts (c .before)) (table (c .before)) ≡ true))
 left c =
     ⊎-elim
     (λ w.
     let o = c .before .parts .inv in
     inl (w .3 ∙ o .3, rw (w .1, w .2) (finished _ _ (o .2) (omega (arith, o .1, w .0 .left)))))
     (⊎-elim
-    (λ w. inr (w .16, two-rows (record { before = record { before = record { before = record { before = record { before = record { before = record { before = record { before = record { before = record { before = record { before = record { before = record { before = record { before = c .before; parts-test = w .0 }; part = w .1 }; if1 = w .2 }; new-profile = w .3 }; loop = w .4 }; loop-test = w .5 }; loop2 = w .6 }; if3 = w .7 }; if5 = w .8 }; part-at = w .9 }; next-piece = w .10 }; if6 = w .11 }; if7 = w .12 }; if8 = w .13 })))
+    (λ w.
+    let l = w .6 .inv in
+    inr (w .16, l .0 .over (two-ahead (l .1) _ (rw (w .9 .ensures) at (w .10 .ensures)) (w .8 .taken) (w .11 .taken) (omega (arith, w .13 .taken)) (w .12 .taken))))
     (⊎-elim
-    (λ w. inr (w .16, piece-too-many (record { before = record { before = record { before = record { before = record { before = record { before = record { before = record { before = record { before = record { before = record { before = record { before = record { before = record { before = c .before; parts-test = w .0 }; part = w .1 }; if1 = w .2 }; new-profile = w .3 }; loop = w .4 }; loop-test = w .5 }; loop2 = w .6 }; if3 = w .7 }; if5 = w .8 }; part-at = w .9 }; next-piece = w .10 }; if6 = w .11 }; if7 = w .12 }; if11 = w .13 })))
+    (λ w.
+    let l = w .6 .inv in
+    inr (w .16, l .0 .over (no-place (l .1) _ (rw (w .9 .ensures) at (w .10 .ensures)) (w .8 .taken) (w .11 .taken) (omega (arith, w .13 .taken)))))
     (⊎-elim
-    (λ w. inr (w .16, row-too-many (record { before = record { before = record { before = record { before = record { before = record { before = record { before = record { before = record { before = record { before = record { before = record { before = record { before = record { before = c .before; parts-test = w .0 }; part = w .1 }; if1 = w .2 }; new-profile = w .3 }; loop = w .4 }; loop-test = w .5 }; loop2 = w .6 }; if3 = w .7 }; if5 = w .8 }; next = w .9 }; if12 = w .10 }; is-untouched = w .11 }; if13 = w .12 }; if14 = w .13 })))
-    (λ w. inr (w .14, last-too-many (record { before = record { before = record { before = record { before = record { before = record { before = record { before = record { before = record { before = record { before = record { before = record { before = c .before; parts-test = w .0 }; part = w .1 }; if1 = w .2 }; new-profile = w .3 }; loop = w .4 }; loop-test = w .5 }; loop2 = w .6 }; if3 = w .7 }; if4 = w .8 }; last-profile = w .9 }; if16 = w .10 }; if17 = w .11 }))))))
+    (λ w.
+    let step : At tie.After-new-profile = record { before = record { before = record { before = record { before = c .before; parts-test = w .0 }; part = w .1 }; if1 = w .2 }; new-profile = w .3 } in
+    let walk : At tie.At-walk = record { before = record { before = record { before = step; skip = w .4 }; skip-test = w .5 }; walk = w .6 } in
+    let r : At tie.Else5 = record { before = record { before = walk; if3 = w .7 }; if5 = w .8 } in
+    let s : At tie.Else13 = record { before = record { before = record { before = record { before = r; next = w .9 }; if12 = w .10 }; is-untouched = w .11 }; if13 = w .12 } in
+    inr (w .16, w .6 .inv .0 .over (rest-over (w .6 .inv .1) (none r) (inside r) (stays s) (w .13 .taken))))
+    (λ w.
+    let l = w .6 .inv in
+    inr (w .14, l .0 .over (last-over (l .1 .laid) (ltb-false _ _ (w .8 .left)) (omega (arith, w .7 .left)) _ (w .9 .ensures) (w .10 .taken) (omega (arith, w .11 .taken))))))))
     (c .parts-test .came)
 
+-- what is answered, where the table is the one that was given or that of the rows
+answers : (c : At tie.At-parts) (over : Bool) (now : Table) → Ended (parts c) (table c) over now
+    → _≡_ {A = Edited} (record { table = now; over = over }) (updated (given c .before .args .old) (given c .before .args .new) (table c))
+answers c over now e =
+    let a = given c .before .args in
+    ended-is (a .old) (a .new) (a .table) _ (given c .get-mandatory-part-adjustments .ensures) over now e
+
 -- where one is over, the table is as it was
-returns : tie.Need-returns Inv-loop μ-loop Inv-loop3 μ-loop3 Inv-loop4 μ-loop4 Inv-loop2 μ-loop2 Inv-loop5 μ-loop5 Inv-parts μ-parts
+returns : At tie.Need-returns
 returns c =
     let s = c .before .before in
-    let a = s .before .before .before .before .before .before .before .before .before .before .before in
-    let g = s .before .before .before .before .before .before .before .before .before .before .get-mandatory-part-adjustments in
-    let e : Ended (g .result) (a .args .table) (s .parts-test .over) (a .args .table) =
+    let o = s .before in
+    let e : Ended (parts o) (table o) (s .parts-test .over) (table o) =
     ⊎-elim
     (λ f. absurd (true≢false (sym (c .before .if18 .taken) ∙ f .0)))
-    (λ o. rw (o .0) (record { is-over = sym (o .1); is = refl; clean = a .pre .clean }))
+    (λ w. rw (w .0) (record { is-over = sym (w .1); is = refl; clean = given o .before .pre .clean }))
     (left s) in
-    ended-is (a .args .old) (a .args .new) (a .args .table) _ (g .ensures) _ _ e
+    answers o _ _ e
 
-returns-2 : tie.Need-returns-2 Inv-loop μ-loop Inv-loop3 μ-loop3 Inv-loop4 μ-loop4 Inv-loop2 μ-loop2 Inv-loop5 μ-loop5 Inv-parts μ-parts
+returns-2 : At tie.Need-returns-2
 returns-2 c =
     let s = c .before in
-    let a = s .before .before .before .before .before .before .before .before .before .before .before in
-    let g = s .before .before .before .before .before .before .before .before .before .before .get-mandatory-part-adjustments in
-    let e : Ended (g .result) (a .args .table) (s .parts-test .over) (tabled (s .parts-test .rows) (s .parts-test .count)) =
-    ⊎-elim (λ f. rw (f .0) (f .1)) (λ o. absurd (true≢false (sym (o .0) ∙ c .if18 .left))) (left s) in
-    ended-is (a .args .old) (a .args .new) (a .args .table) _ (g .ensures) _ _ e
+    let o = s .before in
+    let e : Ended (parts o) (table o) (s .parts-test .over) (tabled (s .parts-test .rows) (s .parts-test .count)) =
+    ⊎-elim (λ f. rw (f .0) (f .1)) (λ w. absurd (true≢false (sym (w .0) ∙ c .if18 .left))) (left s) in
+    answers o _ _ e
 
 pub update-time-table-spec : {M : Type 1} → statement M
 update-time-table-spec =
     tie.close
     (tie.spec
-    Inv-loop
-    μ-loop
-    Inv-loop3
-    μ-loop3
-    Inv-loop4
-    μ-loop4
-    Inv-loop2
-    μ-loop2
-    Inv-loop5
-    μ-loop5
+    Inv-skip
+    μ-skip
+    Inv-raise
+    μ-raise
+    Inv-lower
+    μ-lower
+    Inv-walk
+    μ-walk
+    Inv-clear
+    μ-clear
     Inv-parts
     μ-parts
     get-mandatory-part-adjustments-requires
@@ -508,69 +534,69 @@ update-time-table-spec =
     mul-part-2
     array-copy-out-part-3
     new-profile-requires
-    loop-holds
+    skip-holds
     sub-half
-    add-row
-    sub-row
-    mul-row
-    array-copy-out-row
-    add-low
-    loop-less
-    loop-again
-    loop-less-2
-    loop-again-2
-    loop2-holds
+    add-middle
+    sub-middle
+    mul-middle
+    array-copy-out-middle
+    add-skipped
+    skip-less
+    skip-again
+    skip-less-2
+    skip-again-2
+    walk-holds
     part-at-requires
     next-piece-requires
-    mul-held
-    array-copy-out-held
-    loop3-holds
+    mul-parked
+    array-copy-out-parked
+    raise-holds
     sub-count
     sub-top
     mul-moved
     array-copy-out-moved
     mul-rows
     array-set-from-rows
-    loop3-less
-    loop3-again
+    raise-less
+    raise-again
     mul-rows-2
     array-set-from-rows-2
-    add-n
-    loop2-less
-    loop2-again
-    loop2-less-2
-    loop2-again-2
+    add-write
+    walk-less
+    walk-again
+    walk-less-2
+    walk-again-2
     mul-next
     array-copy-out-next
     is-untouched-requires
     instant-behind-requires
-    add-i
-    loop2-less-3
-    loop2-again-3
-    loop2-less-4
-    loop2-again-4
-    loop4-holds
-    loop2-less-5
-    loop2-again-5
+    add-read
+    walk-less-3
+    walk-again-3
+    walk-less-4
+    walk-again-4
+    lower-holds
+    walk-less-5
+    walk-again-5
     mul-moved-2
     array-copy-out-moved-2
     mul-rows-3
     array-set-from-rows-3
-    add-n-2
-    add-i-2
-    loop4-less
-    loop4-again
+    add-write-2
+    add-read-2
+    lower-less
+    lower-again
     last-profile-requires
     mul-rows-4
     array-set-from-rows-4
-    add-n-3
-    loop5-holds
+    add-write-3
+    clear-holds
     mul-rows-5
     array-set-from-rows-5
-    add-at
-    loop5-less
-    loop5-again
-    add-k
+    add-place
+    clear-less
+    clear-again
+    add-done
     parts-less
     parts-again
     returns

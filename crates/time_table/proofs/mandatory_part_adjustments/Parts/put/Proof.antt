@@ -2,7 +2,7 @@
 -- Assumes nothing.
 use mathlib.Core.List.{append-nil}
 use Rattle.time_table.proofs.Held.{held-push}
-use Rattle.time_table.proofs.Adjusted.{stretch-none, stretch-some}
+use Rattle.time_table.proofs.PartDifference.{stretch-none, stretch-some}
 use borrow.Author.Needs.{needs}
 use native.Mathlib.Omega.{arith}
 use Rattle.time_table.proofs.mandatory_part_adjustments.Parts.put.Statement.{statement}

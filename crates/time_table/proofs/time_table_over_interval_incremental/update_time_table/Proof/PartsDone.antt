@@ -24,13 +24,13 @@ use Rattle.time_table.specs.Meaning.{Runs}
 use Rattle.time_table.specs.Insertion.{insertion, Insertable}
 use Rattle.time_table.specs.Removal.{removal, Removable}
 use Rattle.time_table.specs.Update.{after, overAfter, updateOver, updatedRows, updated, Updatable}
-use Rattle.time_table.proofs.Editing.{stepped, CanStep, Puts, Takes, Editable}
+use Rattle.time_table.proofs.Editable.{stepped, CanStep, Puts, Takes, Editable}
 use Rattle.time_table.proofs.Held.{held-next, held-end}
 use Rattle.time_table.proofs.Front.{Cleared}
-use Rattle.time_table.proofs.Edits.{Down, down-on, over-here, rows-of, table-self, Fitting}
-use Rattle.time_table.proofs.Steps.{edit-on}
+use Rattle.time_table.proofs.TableOfRows.{rows-of, table-self}
+use Rattle.time_table.proofs.PartsInTurn.{Down, down-on, over-here, Fitting, edit-on}
 use Rattle.time_table.proofs.EditRight.{each-insertable, each-removable, insertion-right, removal-right}
-use Rattle.time_table.proofs.Updates.{left-held, parts-in, update-removes, update-adds}
+use Rattle.time_table.proofs.TableUpdate.{left-held, parts-in, update-removes, update-adds}
 use Rattle.time_table.proofs.Sums.{lt-or-le}
 
 -- the steps by number: first the parts that are removed, then those that are added

@@ -19,12 +19,12 @@ use Rattle.time_table.specs.Pieces.{beforePart, afterPart}
 use Rattle.time_table.specs.Overlap.{overlaps}
 use Rattle.time_table.specs.Insertion.{alone, gapBefore, heightened, grown, startedAt, pastRow, insertion, Insertable}
 use Rattle.time_table.specs.Removal.{lessened, reduced, removal, Removable}
-use Rattle.time_table.specs.Stepping.{partAt, piecesFrom, madeLast, untouched, Changeable}
-use Rattle.time_table.proofs.Editing.{stepped, CanStep}
+use Rattle.time_table.specs.PartByPart.{partAt, piecesFrom, madeLast, untouched, Changeable}
+use Rattle.time_table.proofs.Editable.{stepped, CanStep}
 use Rattle.time_table.proofs.Cut.{cut-none}
 use Rattle.time_table.proofs.AtRow.{ordered-at, ordered-apart}
-use Rattle.time_table.proofs.Orders.{ordered-from}
-use Rattle.time_table.proofs.Heightened.{insertable-later}
+use Rattle.time_table.proofs.RowsInOrder.{ordered-from}
+use Rattle.time_table.proofs.CoveredPiece.{insertable-later}
 use Rattle.time_table.proofs.Apart.{reduced-early, reduced-late, grown-early, grown-late}
 use Rattle.time_table.proofs.Sums.{lt-or-le}
 use Rattle.time_table.proofs.Bits.{both, either}

@@ -17,14 +17,14 @@ use Rattle.time_table.specs.Rows.{noRow, rowAt, rowsOf, cut}
 use Rattle.time_table.specs.Order.{Ordered, ticks}
 use Rattle.time_table.specs.Pieces.{beforePart, afterPart}
 use Rattle.time_table.specs.Insertion.{joined, gapBefore, heightened, grown, startedAt, pastRow, insertion}
-use Rattle.time_table.specs.Stepping.{partAt, piecesFrom, NextPiece, untouched}
-use Rattle.time_table.proofs.Editing.{stepped, CanStep}
+use Rattle.time_table.specs.PartByPart.{partAt, piecesFrom, NextPiece, untouched}
+use Rattle.time_table.proofs.Editable.{stepped, CanStep}
 use Rattle.time_table.proofs.Cut.{cut-none, cut-some}
 use Rattle.time_table.proofs.Sums.{lt-or-le}
 use Rattle.time_table.proofs.Front.{front-behind}
-use Rattle.time_table.proofs.Rising.{Raised}
-use Rattle.time_table.proofs.Stepped.{Late, first-lies, all-late}
-use Rattle.time_table.proofs.Laying.{Laid, Moves, rest-length, piece-first, piece-more, laid-from, laid-piece, laid-none, laid-raised, laid-cut, rest-is, next-ahead, next-late, rests-more, laid-rests}
+use Rattle.time_table.proofs.time_table_over_interval_incremental.update_time_table.Proof.MovedToEnd.{Raised}
+use Rattle.time_table.proofs.time_table_over_interval_incremental.update_time_table.Proof.StepOverRows.{Late, first-lies, all-late}
+use Rattle.time_table.proofs.time_table_over_interval_incremental.update_time_table.Proof.LaidRows.{Laid, Moves, rest-length, piece-first, piece-more, laid-from, laid-piece, laid-none, laid-raised, laid-cut, rest-is, next-ahead, next-late, rests-more, laid-rests}
 
 -- a cut with an instant is a row
 cut-length : (r : Row) (x y : ℕ) → x < y → length (cut r x y) ≡ 1
@@ -123,18 +123,18 @@ module _ {s : Step} {n i j : ℕ} {r : Row} {rest : List Row} where
         }
 
 -- a step on its way: a row that is written over before it is read is in hand, in a full table; and a removal has this lead
-pub record Walked (s : Step) (whole : List Row) (held : Row) (rows : List Row) (n x count i : ℕ) (r : Row) (y j : ℕ) : Type 0 where
+pub record Walked (s : Step) (whole : List Row) (parked : Row) (rows : List Row) (n x count i : ℕ) (r : Row) (y j : ℕ) : Type 0 where
   pub laid : Laid s whole rows n x count i r y j
-  pub kept : i < n → i < count → (held ≡ rowAt (laid .source) i) × (n ≡ i + 1) × (count ≡ 128)
+  pub kept : i < n → i < count → (parked ≡ rowAt (laid .source) i) × (n ≡ i + 1) × (count ≡ 128)
   pub lead : s .taking ≡ true → Lead s n i r j (laid .rest)
 
-pub walked-from : (s : Step) (t : Table) → CanStep s t → (first : ℕ) (held r : Row) (y : ℕ) → first ≤ t .count → ((k : ℕ) → k < first → rowAt (t .rows) k .end < s .part .from)
+pub walked-from : (s : Step) (t : Table) → CanStep s t → (first : ℕ) (parked r : Row) (y : ℕ) → first ≤ t .count → ((k : ℕ) → k < first → rowAt (t .rows) k .end < s .part .from)
     → ((k : ℕ) → first ≤ k → k < t .count → s .part .from ≤ rowAt (t .rows) k .end)
-    → Walked s (stepped s (s .part .from) (rowsOf t)) held (t .rows) first (s .part .from) (t .count) first r y 4
-walked-from s t can first held r y le early late =
+    → Walked s (stepped s (s .part .from) (rowsOf t)) parked (t .rows) first (s .part .from) (t .count) first r y 4
+walked-from s t can first parked r y le early late =
     record { laid = laid-from s t can first r y le early late; kept = λ lt. absurd (omega arith); lead = λ e. lead-level (omega arith) (omega arith) }
 
-module _ {s : Step} {whole rows : List Row} {held r : Row} {n x count i y j : ℕ} (w : Walked s whole held rows n x count i r y j) where
+module _ {s : Step} {whole rows : List Row} {parked r : Row} {n x count i y j : ℕ} (w : Walked s whole parked rows n x count i r y j) where
   -- at most one row is in hand
   pub one-ahead : i < count → n ≤ i + 1
   one-ahead lt = ⊎-elim (λ less. omega (arith, w .kept less lt .1)) (λ le. omega arith) (lt-or-le i n)
@@ -144,13 +144,13 @@ module _ {s : Step} {whole rows : List Row} {held r : Row} {n x count i y j : �
     removed-first e some = rw e at (piece-first (w .laid) piece next some)
 
     -- no piece
-    pub walked-none : piece .some ≡ false → Walked s whole held rows n x count i r y (piece .next)
+    pub walked-none : piece .some ≡ false → Walked s whole parked rows n x count i r y (piece .next)
     unfolding laid-none
     walked-none e = record { laid = laid-none (w .laid) piece next e more; kept = w .kept; lead = λ t. lead-none (w .lead t) more (next .on) }
 
     module _ (e : piece .some ≡ true) where
       -- a piece in a place that is read
-      pub walked-piece : n < 128 → (i < count → n < i) → Walked s whole held (set rows n (piece .row)) (n + 1) x count i r y (piece .next)
+      pub walked-piece : n < 128 → (i < count → n < i) → Walked s whole parked (set rows n (piece .row)) (n + 1) x count i r y (piece .next)
       unfolding laid-piece
       walked-piece room free =
           record {
@@ -170,10 +170,10 @@ module _ {s : Step} {whole rows : List Row} {held r : Row} {n x count i y j : �
           }
 
       -- one before rows that have gone to the end
-      pub walked-raised : {rows' : List Row} {count' top : ℕ} (held' : Row) → n ≡ i → Raised rows count rows' count' top → count' ≡ i
-          → Walked s whole held' (set rows' n (piece .row)) (n + 1) x 128 top r y (piece .next)
+      pub walked-raised : {rows' : List Row} {count' top : ℕ} (parked' : Row) → n ≡ i → Raised rows count rows' count' top → count' ≡ i
+          → Walked s whole parked' (set rows' n (piece .row)) (n + 1) x 128 top r y (piece .next)
       unfolding laid-piece laid-raised
-      walked-raised held' same z at =
+      walked-raised parked' same z at =
           let up = laid-raised (w .laid) same z at in
           record {
             laid = laid-piece up piece next e (omega (arith, z .room, z .within)) more;
@@ -208,7 +208,7 @@ module _ {s : Step} {whole rows : List Row} {held r : Row} {n x count i y j : �
     next-lies = first-lies (next-ahead (w .laid) none lt) .2
 
     -- is one to be cut
-    pub walked-cut : Walked s whole held rows n (pastRow (startedAt (s .part) x) (rowAt (w .laid .source) i)) count (i + 1) (rowAt (w .laid .source) i) x 0
+    pub walked-cut : Walked s whole parked rows n (pastRow (startedAt (s .part) x) (rowAt (w .laid .source) i)) count (i + 1) (rowAt (w .laid .source) i) x 0
     unfolding laid-cut
     walked-cut =
         let f = first-lies (next-ahead (w .laid) none lt) in
@@ -233,7 +233,7 @@ module _ {s : Step} {whole rows : List Row} {held r : Row} {n x count i y j : �
           omega (arith, k .1, k .2, rests-more (w .laid) none (next-late (w .laid) none lt e), rest-length (w .laid))
 
       -- they stay where they are
-      pub walked-rests : n ≡ i → Walked s whole held rows count x count count r y j
+      pub walked-rests : n ≡ i → Walked s whole parked rows count x count count r y j
       walked-rests same =
           record { laid = laid-rests (w .laid) none (next-late (w .laid) none lt e) same; kept = λ less in-it. absurd (omega arith); lead = λ t. lead-level none (omega arith) }
 
@@ -242,6 +242,6 @@ module _ {s : Step} {whole rows : List Row} {held r : Row} {n x count i y j : �
       moves-start le = record { laid = w .laid; none = none; late = next-late (w .laid) none lt e; level = le }
 
 -- and when all have moved none is left
-pub walked-moved : {s : Step} {whole rows : List Row} {r : Row} {n x count i y j : ℕ} (held : Row) → Moves s whole rows n x count i r y j → count ≤ i
-    → Walked s whole held rows n x count i r y j
-walked-moved held m all = record { laid = m .laid; kept = λ less in-it. absurd (omega arith); lead = λ t. lead-level (m .none) (m .level) }
+pub walked-moved : {s : Step} {whole rows : List Row} {r : Row} {n x count i y j : ℕ} (parked : Row) → Moves s whole rows n x count i r y j → count ≤ i
+    → Walked s whole parked rows n x count i r y j
+walked-moved parked m all = record { laid = m .laid; kept = λ less in-it. absurd (omega arith); lead = λ t. lead-level (m .none) (m .level) }

@@ -18,14 +18,13 @@ use Rattle.time_table.specs.Insertion.{insertion}
 use Rattle.time_table.specs.Removal.{removal}
 use Rattle.time_table.specs.Meaning.{has, Right}
 use Rattle.time_table.specs.Update.{updateOver, updatedRows, moved, after, overAfter, Updatable}
-use Rattle.time_table.proofs.Editing.{Puts, Takes, Editable}
+use Rattle.time_table.proofs.Editable.{Puts, Takes, Editable}
 use Rattle.time_table.proofs.Held.{held-as}
-use Rattle.time_table.proofs.Adjusted.{stretch-none, stretch-some}
-use Rattle.time_table.proofs.Left.{left}
-use Rattle.time_table.proofs.Steps.{edits-right}
+use Rattle.time_table.proofs.PartDifference.{stretch-none, stretch-some, left}
+use Rattle.time_table.proofs.PartsInTurn.{edits-right}
 use Rattle.time_table.proofs.EditRight.{removal-right}
 use Rattle.time_table.proofs.AdjustedRight.{both, removed-steps, added-steps, moved-within, adjusted-right}
-use Rattle.time_table.proofs.Edits.{rows-of, clean-of}
+use Rattle.time_table.proofs.TableOfRows.{rows-of, clean-of}
 use Rattle.time_table.proofs.Sums.{lt-or-le}
 use Rattle.time_table.proofs.Bits.{neither}
 

@@ -2,7 +2,7 @@
 -- are left stand in the array from a place on, wherever that is.
 -- Assumes nothing.
 use mathlib.Core.Path.{_≡_, refl, sym, ap, _∙_}
-use mathlib.Core.Bool.{Bool, true, false, cond, not}
+use mathlib.Core.Bool.{Bool, true, false, cond}
 use mathlib.Core.List.{List, [], _∷_, _++_, append-assoc, append-nil}
 use Prim.Native.Nat.{ℕ, _+_, _-_, _≤_, _<_}
 use native.Mathlib.Omega.{arith}
@@ -13,17 +13,17 @@ use Rattle.time_table.specs.declared.Table.{Table}
 use Rattle.time_table.specs.declared.pieces.Piece.{Piece}
 use Rattle.time_table.specs.declared.part_by_part.Step.{Step}
 use Rattle.time_table.specs.Held.{Held}
-use Rattle.time_table.specs.Rows.{emptyRow, noRow, rowAt, rowsOf, cut}
+use Rattle.time_table.specs.Rows.{emptyRow, noRow, rowAt, rowsOf}
 use Rattle.time_table.specs.Pieces.{Cuts}
 use Rattle.time_table.specs.Insertion.{startedAt, pastRow}
-use Rattle.time_table.specs.Stepping.{partAt, piecesFrom, NextPiece, madeLast, untouched, Changeable}
-use Rattle.time_table.proofs.Editing.{stepped, CanStep}
+use Rattle.time_table.specs.PartByPart.{partAt, piecesFrom, NextPiece, madeLast, untouched, Changeable}
+use Rattle.time_table.proofs.Editable.{stepped, CanStep}
 use Rattle.time_table.proofs.Held.{held-length, held-next, held-end}
 use Rattle.time_table.proofs.Piecewise.{no-piece}
 use Rattle.time_table.proofs.AtRow.{each-of}
 use Rattle.time_table.proofs.Front.{Front, front-as, front-store, front-behind}
-use Rattle.time_table.proofs.Rising.{Raised}
-use Rattle.time_table.proofs.Stepped.{stepped-nil, stepped-cons, stepped-skips, Reached, Late, late-on, late-first, all-late, Ahead, ahead-next, first-changeable, first-late, ahead-none, ordered-drop, each-drop}
+use Rattle.time_table.proofs.time_table_over_interval_incremental.update_time_table.Proof.MovedToEnd.{Raised}
+use Rattle.time_table.proofs.time_table_over_interval_incremental.update_time_table.Proof.StepOverRows.{stepped-nil, stepped-cons, stepped-skips, Reached, Late, late-on, late-first, all-late, Ahead, ahead-next, first-changeable, first-late, ahead-none, ordered-drop, each-drop}
 
 -- the rows that are left stand in an array from i on, up to `count`, and behind them it is blank
 pub record Unread (s : Step) (source : List Row) (count i : ℕ) (rest : List Row) : Type 0 where
