@@ -20,7 +20,7 @@ cd "$(dirname "$0")"
 need rt
 program=target/bin/pass_planner
 if ! [ -x "$program" ] || [ -n "$(find crates crates.txt -newer "$program")" ]; then
-    echo 'run.sh: proving and building the program, which takes some minutes' >&2
+    echo 'run.sh: proving and building the program, which can take some minutes' >&2
 fi
 if ! said=$(rt check pass_planner </dev/null 2>&1); then
     printf '%s\n' "$said" >&2
