@@ -1,12 +1,20 @@
 #!/bin/sh
-# native.sh CRATE OUT: what `rt` compiles for x86-64, compiled for this processor: of the library `script` an object, of a program the program. A relative OUT is
-# below the repository's root.
-# This runs `rt` with a folder of links to the kit in which clang is a script that keeps the LLVM module that it is handed. Then the kit's own clang
-# compiles that module at -O3, as it did for x86-64; on another processor it says that it ignores the processor x86-64, which the module names.
+# native.sh CRATE OUT: what `rt` compiles for x86-64, compiled for this processor: of the library `script`
+# an object, of a program the program. A relative OUT is below the repository's root.
+# This runs `rt` with a folder of links to the kit, in which clang is a script that keeps the LLVM module
+# that it is handed. Then the kit's own clang compiles that module at -O3, as it did for x86-64. On
+# another processor it says that it ignores the processor x86-64, which the module names.
 set -eu
+if [ $# != 2 ]; then
+    echo 'native.sh: it takes a crate and a file to write: native.sh CRATE OUT' >&2
+    exit 2
+fi
 cd "$(dirname "$0")"
+. ./need.sh
+need rt
 crate=$1
 out=$2
+[ ! -f "crates/$crate/src/main.rt" ] || need "${CC:-cc}"
 machine=$(uname -m)
 kit=$(dirname "$(dirname "$(rt doc)")")
 clang=$kit/on/$machine/toolchain/bin/clang

@@ -1,11 +1,27 @@
 #!/bin/sh
-# Answers standard input by the program, which is proved and built first unless it is already:
+# Answers a file of commands, or standard input, by the program, which is proved and built first unless
+# it is already:
+#     ./run.sh examples/listing.txt
 #     ./run.sh < examples/listing.txt
 # Programs are for x86-64. On another processor the kit's emulator runs them.
 set -eu
+if [ $# -gt 1 ]; then
+    echo 'run.sh: it takes one file at most: run.sh [FILE]' >&2
+    exit 2
+elif [ $# = 1 ]; then
+    if [ -d "$1" ] || ! [ -r "$1" ]; then
+        echo "run.sh: the file '$1' cannot be read" >&2
+        exit 2
+    fi
+    exec <"$1"
+fi
 cd "$(dirname "$0")"
+. ./need.sh
+need rt
 program=target/bin/pass_planner
-[ -x "$program" ] || echo 'run.sh: proving and building the program; this takes some minutes, once' >&2
+if ! [ -x "$program" ] || [ -n "$(find crates crates.txt -newer "$program")" ]; then
+    echo 'run.sh: proving and building the program, which can take some minutes' >&2
+fi
 if ! said=$(rt check pass_planner </dev/null 2>&1); then
     printf '%s\n' "$said" >&2
     exit 1

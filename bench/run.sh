@@ -1,7 +1,10 @@
 #!/bin/sh
-# Builds the static library, counts its copies and its stack, and races it with the Rust original; prints two tables in Markdown.
+# Builds the static library, counts its copies and its stack, and races it with the Rust original; prints
+# two tables in Markdown.
 set -eu
 cd "$(dirname "$0")"
+. ../need.sh
+need rt cargo "${CC:-cc}"
 target=$(cd .. && pwd -P)/target
 if [ "$(uname -m)" = x86_64 ]; then
     (cd .. && rt staticlib script)

@@ -1,8 +1,11 @@
 #!/bin/sh
-# Builds the static library and the C program over it, runs the program, and compares what it prints with `expected`.
-# The library is for x86-64. On another processor clang compiles the program for x86-64, and the kit's C library and emulator run it.
+# Builds the static library and the C program over it, runs the program, and compares what it prints
+# with `expected`. The library is for x86-64. On another processor clang compiles the program for x86-64,
+# and the kit's C library and emulator run it.
 set -eu
 cd "$(dirname "$0")"
+. ../need.sh
+if [ "$(uname -m)" = x86_64 ]; then need rt "${CC:-cc}"; else need rt clang; fi
 rt staticlib script
 archive=../target/staticlib/libscript.a
 out=../target/library

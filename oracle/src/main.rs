@@ -23,12 +23,12 @@ oracle generate SEED COUNT [SHAPE]
 oracle compare PROGRAM [SEED [COUNT [SHAPE]]]
     holds the program against the oracle; by default seed 1 and 21000 sessions of all shapes
 
-Without a switch everything is as the Rust is. A switch repairs one exception of document 01:
+Without a switch everything is as the Rust is. A switch repairs one exception (docs/DIFFERENCES.md):
   --minus-one  a sweep with an event at time -1 (the Rust loses the row that is open then)
   --heavy      an update in a plan with a usage over the capacity (the Rust may miss the overload)
   --negative   negative usage or duration: refusal 6 or 5 (the Rust drops the job)
   --rows       over 128 rows: refusal 8 (the Rust's vector grows)
-  --repaired   all four: document 01
+  --repaired   all four: what docs/SCOPE.md wants
   --domain     at the end, say on standard error if an exception occurred, and at which line first
 
 Where the Rust panics, which it can do after a sweep with an event at -1, the answer is X, and so is

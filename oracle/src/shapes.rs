@@ -36,7 +36,7 @@ pub const SHAPES: [Shape; 21] = [
     shape("refused", "refused calls between", refused),
     shape("malformed", "lines that can't be read", malformed),
     shape("fit", "first-fit questions", fit),
-    shape("plain", "no exception of document 01", plain),
+    shape("plain", "none of the four exceptions", plain),
 ];
 
 /// The greatest start bound, duration and capacity.
