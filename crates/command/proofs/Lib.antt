@@ -14,3 +14,5 @@ pub mod Examples
 pub mod Unique
 pub mod Listing
 pub mod Unreadable
+pub mod Calls
+pub mod TableLines

@@ -12,9 +12,15 @@ use denote.Triple.Clauses.{AtExit}
 use Rattle.command.specs.declared.Answered.{Answered}
 use Rattle.command.specs.declared.lines.State.{State}
 use Rattle.command.specs.declared.lines.Served.{Served}
-use Rattle.command.specs.Sessions.{Outcome, Answers}
+use Rattle.command.specs.Sessions.{Outcome, answered, Answers}
 use Rattle.command.specs.Lines.{served, Serves, finished}
 use Rattle.command.specs.Unique.{FinishPromise}
+use Rattle.command.proofs.Session.answer.Reads as answer
+use Rattle.command.proofs.Session.answer.Kinds as answer-kinds
+use Rattle.command.proofs.Session.answer as answer-fn
+use Rattle.command.proofs.lines.State.serve.Reads as serve
+use Rattle.command.proofs.lines.State.serve.Kinds as serve-kinds
+use Rattle.command.proofs.lines.State.serve as serve-fn
 use Rattle.command.proofs.lines.State.finish.Reads as finish
 use Rattle.command.proofs.lines.State.finish.Kinds as finish-kinds
 use Rattle.command.proofs.lines.State.finish as finish-fn
@@ -40,7 +46,15 @@ finish-unique s out a b r q g h =
     let len : r ≡ q = g .0 ∙ sym (h .0) in
     (text-unique (finished s) out len (g .1) (h .1), len)
 
--- what meets the contract of `State::finish` meets its promise; those of `Session::answer` and `State::serve` cite theirs
+-- what meets the contract of `Session::answer`, `State::serve` or `State::finish` meets its promise
+pub answer-promised : (κs : Lfts 2) (a : ArgsD answer-fn.signature κs) (r : Answered) (s : AtExit (endedOf 2 answer-kinds.ps answer-kinds.r) κs)
+    → answer.Post κs a r s → Answers (answered (a .0) (now (a .1 .0))) (now (a .1 .1 .0)) (now (s .1 .1 .0)) r
+answer-promised κs a r s meets = meets .0
+
+pub serve-promised : (κs : Lfts 2) (a : ArgsD serve-fn.signature κs) (r : Served) (s : AtExit (endedOf 2 serve-kinds.ps serve-kinds.r) κs)
+    → serve.Post κs a r s → Serves (a .0) (drop (a .1 .1 .0) (now (a .1 .0))) (a .1 .1 .0) r (now (a .1 .1 .1 .0)) (now (s .1 .1 .1 .0))
+serve-promised κs a r s meets = meets .0
+
 pub finish-promised : (κs : Lfts 1) (a : ArgsD finish-fn.signature κs) (r : ℕ) (s : AtExit (endedOf 1 finish-kinds.ps finish-kinds.r) κs)
     → finish.Post κs a r s → FinishPromise (a .0) (now (a .1 .0)) (now (s .1 .0)) r
 finish-promised κs a r s meets = (meets .0, meets .1 .0, meets .1 .1)

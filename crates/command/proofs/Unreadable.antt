@@ -15,13 +15,13 @@ use Rattle.planner.specs.declared.Refusal.{Refusal}
 use Rattle.planner.specs.declared.RowRecord.{RowRecord}
 use Rattle.planner.specs.declared.Rows.{Rows}
 use Rattle.planner.specs.Refusals.{numberOf}
-use Rattle.planner.specs.Questions.{rowsShown}
+use Rattle.planner.specs.Questions.{rowsShown, shownRows}
 use Rattle.planner.proofs.Numbers.{load-numbers, update-numbers, fit-numbers, rows-numbers}
 use Rattle.command.specs.declared.Session.{Session}
 use Rattle.command.specs.declared.Command.{Command}
 use Rattle.command.specs.Decimal.{digitsIn, decimal}
 use Rattle.command.specs.Grammar.{commandOf}
-use Rattle.command.specs.Text.{countText, refusalText, overloadText, answerText, startText, fitText, rowText, rowsText, rowsOf, tableBy, tableText}
+use Rattle.command.specs.Text.{countText, refusalText, overloadText, answerText, startText, fitText, rowText, rowsText, tableBy, tableText}
 use Rattle.command.specs.Sessions.{Outcome, outcome, answered}
 use Rattle.command.proofs.Digits.{decimal-one}
 use Rattle.command.proofs.Lengths.{count-length}
@@ -61,7 +61,7 @@ rows-other [] n e = first-other _ (λ h. omega arith) e
 rows-other (r ∷ rows) n e = omega (arith, simp length-append at (ap length e))
 
 table-other : (a : Checked) (rows : Rows) → ((why : Refusal) → a ≡ Checked.Refused why → numberOf why < 10) → ¬ (tableBy a rows ≡ r-11)
-table-other Checked.Accepted rows small = rows-other (rowsOf rows) (rows .count)
+table-other Checked.Accepted rows small = rows-other (shownRows rows) (rows .count)
 table-other (Checked.Refused why) rows small = refusal-other why (small why refl)
 
 -- one of two outcomes, and one of two numbers

@@ -5,5 +5,7 @@ pub mod Text
 pub mod Written
 pub mod Sessions
 pub mod Lines
+pub mod Calls
+pub mod TableLines
 pub mod Listing
 pub mod Unique

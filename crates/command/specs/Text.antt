@@ -2,7 +2,6 @@
 use mathlib.Core.List.{List, [], _∷_, _++_, flatMap}
 use Prim.Native.Nat.{ℕ}
 use lib.IntN.{ℤ}
-use lib.ListN.{take}
 use Rattle.planner.specs.declared.RowRecord.{RowRecord}
 use Rattle.planner.specs.declared.Refusal.{Refusal}
 use Rattle.planner.specs.declared.Checked.{Checked}
@@ -11,6 +10,7 @@ use Rattle.planner.specs.declared.FirstFit.{FirstFit}
 use Rattle.planner.specs.declared.Rows.{Rows}
 use Rattle.planner.specs.Refusals.{numberOf}
 use Rattle.planner.specs.Records.{idsOf}
+use Rattle.planner.specs.Questions.{shownRows}
 use Rattle.command.specs.Decimal.{decimal, signedText}
 
 -- a text after a space
@@ -61,12 +61,9 @@ rowText r =
 abbrev pub rowsText : List RowRecord → List ℕ
 rowsText rows = flatMap rowText rows
 
-abbrev pub rowsOf : Rows → List RowRecord
-rowsOf rows = take (rows .count) (rows .rows)
-
 -- what a question for the rows prints: each row, then `E` and the row count, or `R` with the number
 abbrev pub tableBy : Checked → Rows → List ℕ
-tableBy Checked.Accepted rows = rowsText (rowsOf rows) ++ countText 69 (rows .count)
+tableBy Checked.Accepted rows = rowsText (shownRows rows) ++ countText 69 (rows .count)
 tableBy (Checked.Refused why) rows = refusalText why
 
 unfoldable pub tableText : Rows → List ℕ

@@ -1,9 +1,9 @@
 // The command language of the pass planner: lines of bytes to commands, answers to lines of bytes, and
 // a session that holds a plan and the jobs kept for its next load. No input or output.
-mod commands;
 pub mod lines;
 pub mod number;
 pub mod parse;
+mod sessions;
 mod text;
 
 use planner::Job;

@@ -5,7 +5,8 @@ ghost use Prim.Native.Nat.{_+_, _≤_};
 ghost use lib.IntN.{natAbs};
 ghost use lib.ListN.{length};
 ghost use Rattle.command.specs.Decimal.{decimal, signedText};
-ghost use Rattle.command.specs.Text.{spaced, letterText, countText, refusalText, overloadText, answerText, startText, fitText, idsText, rowText, rowsText, tableText, rowsOf, longest};
+ghost use Rattle.command.specs.Text.{spaced, letterText, countText, refusalText, overloadText, answerText, startText, fitText, idsText, rowText, rowsText, tableText, longest};
+ghost use Rattle.planner.specs.Questions.{shownRows};
 ghost use Rattle.planner.specs.Records.{idsOf};
 ghost use Rattle.planner.specs.Shown.{heldIds, Shown};
 ghost use Rattle.command.specs.Written.{Room, Written};
@@ -186,7 +187,7 @@ pub(crate) fn put_row(out: &mut [u8], at: usize, row: RowRecord) -> usize
 pub(crate) fn put_rows(out: &mut [u8], from: usize, rows: Rows) -> usize
     requires { ⌜ Shown rows ⌝ }
     requires { ⌜ from + 51200 ≤ length (now out) ⌝ }
-    ensures { λ r. ⌜ Written (now (out .entry)) from (rowsText (rowsOf rows)) (now (out .exit)) r ⌝ }
+    ensures { λ r. ⌜ Written (now (out .entry)) from (rowsText (shownRows rows)) (now (out .exit)) r ⌝ }
     ensures { λ r. ⌜ r ≤ from + 51200 ⌝ }
 {
     let n = rows.count;

@@ -6,8 +6,8 @@ use Rattle.planner.specs.Questions.{fitOf}
 use Rattle.command.proofs.Outcomes.{fit-given}
 use borrow.Author.Needs.{needs}
 use native.Mathlib.Omega.{arith}
-use Rattle.command.proofs.commands.fit.Statement.{statement}
-use Rattle.command.proofs.commands.fit.Tie as tie
+use Rattle.command.proofs.sessions.fit.Statement.{statement}
+use Rattle.command.proofs.sessions.fit.Tie as tie
 
 first-fit-requires : tie.Need-first-fit-requires
 first-fit-requires c κs = c .before .pre .0 .plan

@@ -7,8 +7,8 @@ use Rattle.command.proofs.Outcomes.{rows-given}
 use Rattle.planner.proofs.ShownRows.{shown-rows}
 use borrow.Author.Needs.{needs}
 use native.Mathlib.Omega.{arith}
-use Rattle.command.proofs.commands.rows.Statement.{statement}
-use Rattle.command.proofs.commands.rows.Tie as tie
+use Rattle.command.proofs.sessions.rows.Statement.{statement}
+use Rattle.command.proofs.sessions.rows.Tie as tie
 
 rows-requires : tie.Need-rows-requires
 rows-requires c κs = c .before .pre .0 .plan

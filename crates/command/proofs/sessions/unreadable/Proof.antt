@@ -3,8 +3,8 @@
 use mathlib.Core.Path.{refl}
 use borrow.Author.Needs.{needs}
 use native.Mathlib.Omega.{arith}
-use Rattle.command.proofs.commands.unreadable.Statement.{statement}
-use Rattle.command.proofs.commands.unreadable.Tie as tie
+use Rattle.command.proofs.sessions.unreadable.Statement.{statement}
+use Rattle.command.proofs.sessions.unreadable.Tie as tie
 
 put-refusal-requires : tie.Need-put-refusal-requires
 put-refusal-requires c κs = omega (arith, c .before .before .pre .1)

@@ -6,8 +6,8 @@ use Rattle.planner.specs.Updates.{updated}
 use Rattle.command.proofs.Outcomes.{updates-given}
 use borrow.Author.Needs.{needs}
 use native.Mathlib.Omega.{arith}
-use Rattle.command.proofs.commands.update.Statement.{statement}
-use Rattle.command.proofs.commands.update.Tie as tie
+use Rattle.command.proofs.sessions.update.Statement.{statement}
+use Rattle.command.proofs.sessions.update.Tie as tie
 
 update-requires : tie.Need-update-requires
 update-requires c κs = search needs

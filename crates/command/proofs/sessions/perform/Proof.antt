@@ -4,8 +4,8 @@ use mir.Syntax.{w32}
 use mir.Facts.{toZ-ofZ}
 use Rattle.command.specs.Sessions.{outcome}
 use borrow.Author.Needs.{needs}
-use Rattle.command.proofs.commands.perform.Statement.{statement}
-use Rattle.command.proofs.commands.perform.Tie as tie
+use Rattle.command.proofs.sessions.perform.Statement.{statement}
+use Rattle.command.proofs.sessions.perform.Tie as tie
 
 enum-known-command : tie.Need-enum-known-command
 enum-known-command c = search needs

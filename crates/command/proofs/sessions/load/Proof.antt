@@ -6,8 +6,8 @@ use Rattle.planner.specs.Loads.{loaded}
 use Rattle.command.proofs.Outcomes.{loads-given, no-jobs-held}
 use borrow.Author.Needs.{needs}
 use native.Mathlib.Omega.{arith}
-use Rattle.command.proofs.commands.load.Statement.{statement}
-use Rattle.command.proofs.commands.load.Tie as tie
+use Rattle.command.proofs.sessions.load.Statement.{statement}
+use Rattle.command.proofs.sessions.load.Tie as tie
 
 load-requires : tie.Need-load-requires
 load-requires c κs = search needs

@@ -6,8 +6,8 @@ use Rattle.planner.proofs.Kept.{keeping-more}
 use Rattle.command.proofs.Outcomes.{kept-refused, kept-more}
 use borrow.Author.Needs.{needs}
 use native.Mathlib.Omega.{arith}
-use Rattle.command.proofs.commands.keep.Statement.{statement}
-use Rattle.command.proofs.commands.keep.Tie as tie
+use Rattle.command.proofs.sessions.keep.Statement.{statement}
+use Rattle.command.proofs.sessions.keep.Tie as tie
 
 put-refusal-requires : tie.Need-put-refusal-requires
 put-refusal-requires c κs = omega (arith, c .before .before .before .before .pre .1)
