@@ -68,21 +68,21 @@ answer-accepted : (b : Bool) → accepted (cond b Overloaded Fits) ≡ true
 answer-accepted true = refl
 answer-accepted false = refl
 
--- the rows that a question gets are those of the table, while it is live
-module _ (h : Heard) (plan : Plan) where
-  abbrev table : List RowRecord
-  table = map recordOf (rowsOf (plan .table))
+-- the rows that a question gets are those of the table, if it is live, and else refused
+pub rows-live : (plan : Plan) → rowsShown plan .answer ≡ Checked.Accepted → plan .live ≡ true
+unfolding rowsShown
+rows-live plan taken = go (plan .live) refl taken
+  where
+    go : (live : Bool) → plan .live ≡ live → cond live (rowsWith Checked.Accepted (map recordOf (rowsOf (plan .table)))) (rowsWith (Checked.Refused Stale) []) .answer ≡ Checked.Accepted → plan .live ≡ true
+    go true live taken = live
+    go false stale taken = let clash : _≡_ {A = ℕ} 0 1 = cc in absurd (omega arith)
 
-  abbrev answer : Bool → Rows
-  answer live = cond live (rowsWith Checked.Accepted table) (rowsWith (Checked.Refused Stale) [])
-
-  pub shown-demanded : (plan .live ≡ true → Demanded h table) → rowsShown plan .answer ≡ Checked.Accepted → Demanded h (shownRows (rowsShown plan))
-  unfolding rowsShown
-  shown-demanded demanded = go (plan .live) demanded
-    where
-      go : (live : Bool) → (live ≡ true → Demanded h table) → answer live .answer ≡ Checked.Accepted → Demanded h (shownRows (answer live))
-      go true demanded taken = rw (take-at table _ (length table) refl) (demanded refl)
-      go false demanded taken = let clash : _≡_ {A = ℕ} 0 1 = cc in absurd (omega arith)
+pub shown-demanded : (h : Heard) (plan : Plan) → (plan .live ≡ true → Demanded h (map recordOf (rowsOf (plan .table)))) → rowsShown plan .answer ≡ Checked.Accepted
+    → Demanded h (shownRows (rowsShown plan))
+unfolding rowsShown
+shown-demanded h plan demanded taken =
+    let live = rows-live plan taken in
+    rw (live, take-at (map recordOf (rowsOf (plan .table))) _ (length (map recordOf (rowsOf (plan .table)))) refl) (demanded live)
 
 -- an accepted call: the plan agrees with what is heard then, and the answer is right
 pub record Good (h : Heard) (o : Updated) : Type 0 where

@@ -17,6 +17,7 @@ use Rattle.time_table.proofs.Bits.{both}
 use Rattle.sweep.proofs.Placed.{get-map}
 use Rattle.planner.specs.declared.Job.{Job}
 use Rattle.planner.specs.declared.Plan.{Plan}
+use Rattle.planner.specs.declared.Checked.the-variants.{Accepted}
 use Rattle.planner.specs.declared.FirstFit.the-variants.{Start, Nowhere}
 use Rattle.planner.specs.Ranges.{bounds}
 use Rattle.planner.specs.Instants.{amount}
@@ -24,7 +25,7 @@ use Rattle.planner.specs.Running.{runLength, between}
 use Rattle.planner.specs.Given.{noJob}
 use Rattle.planner.specs.Records.{recordOf}
 use Rattle.planner.specs.Loads.{taskOf}
-use Rattle.planner.specs.Questions.{fitOf}
+use Rattle.planner.specs.Questions.{fitOf, rowsShown}
 use Rattle.planner.specs.Refused.{HasTask}
 use Rattle.planner.specs.Answers.{freshPlan}
 use Rattle.planner.specs.History.{Call, Heard, nothing, jobAt, Told, planAfter, heardAfter}
@@ -36,7 +37,7 @@ use Rattle.planner.proofs.Accepted.{Numbers}
 use Rattle.planner.proofs.SignedDraws.{numbers-at, draw-below}
 use Rattle.planner.proofs.ById.{drawn-kept}
 use Rattle.planner.proofs.SignedRows.{counts, height-signed}
-use Rattle.planner.proofs.Agreeing.{Agrees}
+use Rattle.planner.proofs.Agreeing.{Agrees, rows-live}
 use Rattle.planner.proofs.Histories.{history-agrees}
 use Rattle.planner.proofs.FitInstants.{height-then, start-exactly, nowhere-exactly}
 
@@ -116,10 +117,13 @@ module _ (h : Heard) (plan : Plan) (a : Agrees h plan) (live : plan .live ≡ tr
         let exactly = rw task-heard at (nowhere-exactly plan (pos i) (a .sound) live task-there) in
         (λ e z w. exactly .0 e z (from-heard job job-numbers z w), λ none. exactly .1 (λ z w. none z (to-heard job job-numbers z w)))
 
--- after every history that leaves the table live, of the job at the place p of the input, which was told the id i
-module _ (calls : List Call) (live : planAfter freshPlan calls .live ≡ true) (p i : ℕ) (told : Told (heardAfter freshPlan nothing calls) p i) where
+-- after every history, where the rows are not refused, of the job at the place p of the input, which was told the id i
+module _ (calls : List Call) (taken : rowsShown (planAfter freshPlan calls) .answer ≡ Accepted) (p i : ℕ) (told : Told (heardAfter freshPlan nothing calls) p i) where
   abbrev h : Heard
   h = heardAfter freshPlan nothing calls
+
+  live : planAfter freshPlan calls .live ≡ true
+  live = rows-live (planAfter freshPlan calls) taken
 
   pub heard-start : (z : ℤ) → (fitOf (planAfter freshPlan calls) (pos i) ≡ Start z) ↔ HeardFirst h (jobAt h p) z
   heard-start z = agreeing-start h (planAfter freshPlan calls) (history-agrees calls) live p i told z

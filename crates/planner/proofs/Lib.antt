@@ -34,5 +34,6 @@ pub mod Numbers
 pub mod Unique
 pub mod FitInstants
 pub mod HeardFit
+pub mod HeardIds
 pub mod FirstRow
 pub mod Corners

@@ -4,7 +4,7 @@ use mathlib.Core.Bool.{true, false, cond}
 use mathlib.Core.List.{List, [], _∷_}
 use mathlib.Core.Logic.{_↔_}
 use Prim.Native.Nat.{ℕ, _+_, _<_}
-use lib.IntN.{ℤ}
+use lib.IntN.{ℤ, pos}
 use lib.ListN.{length, getD}
 use lib.Signed.{leZ, ltZ}
 use Rattle.time_table.specs.Meaning.{bit, occurs}
@@ -61,10 +61,13 @@ pub record Identified (h : Heard) : Type 0 where
   pub every : (p : ℕ) → p < length (h .jobs) → ¬ Idle (jobAt h p) → Named h p
   pub once : (p q i : ℕ) → Told h p i → Told h q i → p ≡ q
 
--- some job was told the id i
+-- some job was told the id i; and none was told this number
 pub record SomeJob (h : Heard) (i : ℕ) : Type 0 where
   pub place : ℕ
   pub told : Told h place i
+
+abbrev pub NoJob : Heard → ℤ → Type 0
+NoJob h id = (i : ℕ) → id ≡ pos i → ¬ SomeJob h i
 
 -- the rows of a live table
 pub record Demanded (h : Heard) (rows : List RowRecord) : Type 0 where
