@@ -1,47 +1,46 @@
 -- A part that is taken out always meets a row, and each row that it meets lists the task: the two places where the Rust's removal panics
 -- cannot be reached. The part's first instant has a row, since the task runs there; and the rows stay right from part to part of an update.
 -- Assumes nothing.
-use mathlib.Core.Path.{_≡_}
+use mathlib.Core.Path.{_≡_, ap, _∙_}
 use mathlib.Core.Bool.{Bool}
 use mathlib.Core.List.{List, [], _∷_, _++_}
-use Prim.Native.Nat.{ℕ, _+_, _≤_, _<_, min, max}
+use Prim.Native.Nat.{ℕ, max}
 use native.Mathlib.Omega.{arith}
-use lib.ListN.{length}
 use Rattle.time_table.specs.declared.Row.{Row}
 use Rattle.time_table.specs.declared.Part.{Part}
 use Rattle.time_table.specs.declared.Table.{Table}
-use Rattle.time_table.specs.Rows.{rowAt, rowsOf, tasks}
+use Rattle.time_table.specs.Rows.{roomForIds, rowAt, rowsOf}
 use Rattle.time_table.specs.Order.{ticks}
 use Rattle.time_table.specs.Adjustments.{removedParts}
-use Rattle.time_table.specs.Removal.{position, Removable, removal}
-use Rattle.time_table.specs.Meaning.{Runs, Right, Within, PartOf, With}
+use Rattle.time_table.specs.Removal.{removal}
+use Rattle.time_table.specs.Meaning.{bit, Runs, Right, Within, PartOf, With}
 use Rattle.time_table.specs.Update.{after, Updatable}
-use Rattle.time_table.proofs.AtRow.{each-at, ordered-at}
-use Rattle.time_table.proofs.EditRight.{runs-in, each-removable, removal-right}
+use Rattle.time_table.specs.Demand.{In, Demanded}
+use Rattle.time_table.specs.Panics.{Meets, Met, Lists, rowsThen}
+use Rattle.time_table.proofs.AtRow.{ordered-at}
+use Rattle.time_table.proofs.EditRight.{runs-in, removal-right}
 use Rattle.time_table.proofs.Editable.{Takes, Steps}
 use Rattle.time_table.proofs.Demanded.{demanded}
 use Rattle.time_table.proofs.TableUpdate.{update-removes}
 
--- some row overlaps a part
-pub record Met (p : Part) (rows : List Row) : Type 0 where
-  pub place : ℕ
-  pub one-of : place < length rows
-  pub starts : rowAt rows place .start < p .until
-  pub ends : p .from ≤ rowAt rows place .end
-
 module _ (runs small : ℕ → ℕ → Bool) (usage : ℕ → ℕ) (rows : List Row) (right : Right runs usage rows) (within : Within runs usage)
     (p : Part) (of : PartOf usage p) (with : With p small runs) where
+  rows-are : Demanded runs usage roomForIds rows
+  rows-are = demanded runs usage roomForIds rows right (within .few)
+
   -- the Rust's "Removal should always have overlap with a profile": the row of the part's first instant does
   pub removal-meets : Met p rows
   removal-meets =
-      let d = demanded runs usage 32 rows right (within .few) in
-      let w = d .covered (p .from) (p .id) (runs-in p small runs with (p .from) (omega arith) (of .some)) in
-      record { place = w .place; one-of = w .there .one-of; starts = omega (arith, w .there .from, of .some); ends = w .there .to }
+      let w = rows-are .covered (p .from) (p .id) (runs-in p small runs with (p .from) (omega arith) (of .some)) in
+      record { place = w .place; meets = record { one-of = w .there .one-of; starts = omega (arith, w .there .from, of .some); ends = w .there .to } }
 
-  -- the Rust's "Task should be in the profile if it is being removed"
-  pub removal-lists : (k : ℕ) → k < length rows → max (p .from) (rowAt rows k .start) < min (p .until) (rowAt rows k .end + 1)
-      → position (p .id) (tasks (rowAt rows k)) < rowAt rows k .count
-  removal-lists k lt meet = each-at (Removable p) rows k lt (each-removable runs small usage rows right within p of with) .there meet .0
+  -- the Rust's "Task should be in the profile if it is being removed": it runs at the first instant that the two share
+  pub removal-lists : (k : ℕ) → Meets p rows k → Lists p (rowAt rows k)
+  removal-lists k m =
+      let t = max (p .from) (rowAt rows k .start) in
+      let lies = ordered-at ticks 0 rows k (m .one-of) (right .ordered) in
+      let in-row : In rows k t = record { one-of = m .one-of; from = omega arith; to = omega (arith, m .ends, lies) } in
+      omega (arith, rows-are .lists k t (p .id) in-row ∙ ap (λ (b : Bool). bit b) (runs-in p small runs with t (omega arith) (omega (arith, m .starts, of .some))))
 
 -- rows of which a part can be taken out: they are right, and the task runs where the part is
 record Turn (p : Part) (rows : List Row) : Type 0 where
@@ -62,10 +61,6 @@ turn-after usage last p later [] runs rows s within right =
 turn-after usage last p later (q ∷ before) runs rows s within right =
     turn-after usage last p later before (s .next) _ (s .rest) (s .within) (removal-right runs (s .next) usage rows right within q (s .of) (s .goes))
 
--- the rows of a table when a part's turn comes, after the parts removed before it
-abbrev pub rowsThen : List Part → Table → List Row
-rowsThen before t = after removal before (rowsOf t)
-
 -- of any update, a part that it removes, with those removed before it and those removed later
 module _ (old new : Part) (t : Table) (u : Updatable old new t) (before later : List Part) (p : Part) (is : removedParts old new ≡ before ++ p ∷ later) where
   turn : Turn p (rowsThen before t)
@@ -78,8 +73,5 @@ module _ (old new : Part) (t : Table) (u : Updatable old new t) (before later : 
   update-meets = removal-meets (turn .runs) (turn .small) (turn .usage) _ (turn .right) (turn .within) p (turn .of) (turn .with)
 
   -- and every row that it meets there lists the task
-  pub update-lists : (k : ℕ) → k < length (rowsThen before t) → rowAt (rowsThen before t) k .start < p .until → p .from ≤ rowAt (rowsThen before t) k .end
-      → position (p .id) (tasks (rowAt (rowsThen before t) k)) < rowAt (rowsThen before t) k .count
-  update-lists k lt starts ends =
-      removal-lists (turn .runs) (turn .small) (turn .usage) _ (turn .right) (turn .within) p (turn .of) (turn .with) k lt
-      (omega (arith, turn .of .some, ordered-at ticks 0 _ k lt (turn .right .ordered)))
+  pub update-lists : (k : ℕ) → Meets p (rowsThen before t) k → Lists p (rowAt (rowsThen before t) k)
+  update-lists = removal-lists (turn .runs) (turn .small) (turn .usage) _ (turn .right) (turn .within) p (turn .of) (turn .with)

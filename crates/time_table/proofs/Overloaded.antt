@@ -13,18 +13,11 @@ use lib.ListN.{length}
 use Rattle.time_table.specs.declared.Row.{Row}
 use Rattle.time_table.specs.Rows.{rowAt}
 use Rattle.time_table.specs.Order.{Ordered}
-use Rattle.time_table.specs.Overload.{conflictIn, FirstOver, NoneOver}
+use Rattle.time_table.specs.Overload.{conflictIn, FirstOver, FirstInstantOver, NoneOver}
 use Rattle.time_table.specs.Meaning.{heightAt}
 use Rattle.time_table.specs.Demand.{In}
 use Rattle.time_table.proofs.Sums.{lt-or-le}
 use Rattle.time_table.proofs.AtRow.{ordered-at, ordered-apart, summed-at, row-or-none}
-
--- the row is too high, and starts at the first instant whose height is
-pub record First (capacity lo : ℕ) (rows : List Row) (r : Row) : Type 0 where
-  pub after : lo ≤ r .start
-  pub high : capacity < r .height
-  pub height : heightAt (r .start) rows ≡ r .height
-  pub before : (t : ℕ) → t < r .start → heightAt t rows ≤ capacity
 
 module _ (capacity : ℕ) where
   pub conflict-row : (rows : List Row) → conflictIn capacity rows .found ≡ true → FirstOver capacity rows (conflictIn capacity rows .row)
@@ -73,7 +66,7 @@ module _ (capacity : ℕ) where
     pub conflict-fits : conflictIn capacity rows .found ≡ false → (t : ℕ) → heightAt t rows ≤ capacity
     conflict-fits e t = by-row t (λ k w. conflict-none-over rows e k (w .one-of))
 
-    pub conflict-first : conflictIn capacity rows .found ≡ true → First capacity lo rows (conflictIn capacity rows .row)
+    pub conflict-first : conflictIn capacity rows .found ≡ true → FirstInstantOver capacity lo rows (conflictIn capacity rows .row)
     conflict-first e =
         let w = conflict-row rows e in
         let lies = ordered-at hi lo rows (w .at) (w .within) o in

@@ -2,18 +2,21 @@
 -- the part has come just behind the row before, so that what of it lies before the row is the gap between the two.
 -- Assumes nothing.
 use mathlib.Core.Path.{_≡_, refl, sym, ap, _∙_}
+use mathlib.Core.Bool.{Bool, true, false, cond}
 use mathlib.Core.Logic.{⊎-elim}
 use mathlib.Core.List.{List, [], _∷_, _++_, append-assoc, append-nil, flatMap}
-use Prim.Native.Nat.{ℕ, _+_, _≤_, _<_, min, max}
+use Prim.Native.Nat.{ℕ, suc, _+_, _-_, _≤_, _<_, min, max}
 use native.Mathlib.Omega.{arith}
+use lib.Dec.{eqb}
+use lib.ListN.{length, take, getD, set}
 use Rattle.time_table.specs.declared.Row.{Row}
 use Rattle.time_table.specs.declared.Part.{Part}
-use Rattle.time_table.specs.Rows.{cut}
+use Rattle.time_table.specs.Rows.{rowOf, tasks, cut}
 use Rattle.time_table.specs.Order.{Each, Ordered}
 use Rattle.time_table.specs.Pieces.{beforePart, afterPart}
 use Rattle.time_table.specs.Insertion.{alone, joined, gapBefore, heightened, grown, startedAt, pastRow, insertion}
-use Rattle.time_table.specs.Removal.{reduced, removal}
-use Rattle.time_table.specs.Sentence.{Before, Overlapping, Behind, Around, Split, uncovered, pieces, replaced, inserted, removed}
+use Rattle.time_table.specs.Removal.{position, takenOut, without, lessened, reduced, removal}
+use Rattle.time_table.specs.Sentence.{Before, Overlapping, Behind, Around, Split, uncovered, coveredPiece, pieces, replaced, inserted, lastOf, allButLast, losing, piecesLeft, removed}
 use Rattle.time_table.proofs.Cut.{cut-none, cut-some}
 use Rattle.time_table.proofs.Apart.{reduced-early, reduced-late, grown-early, grown-late}
 use Rattle.time_table.proofs.RowsInOrder.{ordered-from}
@@ -29,6 +32,37 @@ each-later : (P : Row → Type 0) (x hi lo : ℕ) (rows : List Row) → ((r : Ro
 unfolding Ordered Each
 each-later P x hi lo [] holds le o = tt
 each-later P x hi lo (r ∷ rs) holds le o = (holds r (omega arith) (o .1), each-later P x hi (r .end + 1) rs holds (omega arith) (o .3))
+
+-- the list of a row that loses a task, by one step of `losing`
+others : (y : ℕ) (ys : List ℕ) → take (length ys) (y ∷ ys) ≡ allButLast y ys
+unfolding allButLast
+others y [] = refl
+others y (z ∷ zs) = ap (λ (l : List ℕ). y ∷ l) (others z zs)
+
+last-is : (y : ℕ) (ys : List ℕ) → getD (y ∷ ys) (length ys) 0 ≡ lastOf y ys
+unfolding lastOf
+last-is y [] = refl
+last-is y (z ∷ zs) = last-is z zs
+
+loses : (id : ℕ) (l : List ℕ) → takenOut id l ≡ losing id l
+unfolding losing
+loses id [] = refl
+loses id (x ∷ []) = refl
+loses id (x ∷ y ∷ ys) = go (eqb x id) (length (x ∷ y ∷ ys) - 1) (omega arith) (rw less at (loses id (y ∷ ys)))
+  where
+    less : length (y ∷ ys) - 1 ≡ length ys
+    less = omega arith
+
+    go : (b : Bool) (k : ℕ) → k ≡ suc (length ys) → take (length ys) (set (y ∷ ys) (position id (y ∷ ys)) (getD (y ∷ ys) (length ys) 0)) ≡ losing id (y ∷ ys)
+        → take k (set (x ∷ y ∷ ys) (cond b 0 (suc (position id (y ∷ ys)))) (getD (x ∷ y ∷ ys) k 0)) ≡ cond b (lastOf y ys ∷ allButLast y ys) (x ∷ losing id (y ∷ ys))
+    go true k e later = rw e (λ i. last-is y ys i ∷ others y ys i)
+    go false k e later = rw e (ap (λ (l : List ℕ). x ∷ l) later)
+
+-- what a removal leaves of a row
+reduced-is : (p : Part) (r : Row) → reduced p r ≡ piecesLeft p r
+unfolding lessened without
+reduced-is p r =
+    ap (λ (l : List ℕ). beforePart p r ++ cond (eqb (r .height) (p .usage)) [] (coveredPiece p r (r .height - p .usage) l) ++ afterPart p r) (loses (p .id) (tasks r))
 
 -- a row's pieces without the gap before it
 grouped : (a b c d : List Row) → a ++ b ++ c ++ d ≡ a ++ (b ++ c ++ d)
@@ -70,7 +104,7 @@ module _ (p : Part) (some : p .from < p .until) (hi : ℕ) where
   pieces-later x r low high =
       let left : beforePart (startedAt p x) r ≡ beforePart p r = cut-none r (r .start) (min x (r .end + 1)) (omega arith) ∙ sym (cut-none r (r .start) (min (p .from) (r .end + 1)) (omega arith)) in
       let start : max x (r .start) ≡ max (p .from) (r .start) = omega arith in
-      λ i. left i ++ cut (joined r (p .id) (p .usage)) (start i) (min (p .until) (r .end + 1)) ++ afterPart p r
+      λ i. left i ++ cut (rowOf (r .start) (r .end) (r .height + p .usage) (tasks r ++ p .id ∷ [])) (start i) (min (p .until) (r .end + 1)) ++ afterPart p r
 
   -- what of the part lies behind a row, whether it reaches that far or not
   behind-row : (x : ℕ) (r : Row) → x ≤ r .end → uncovered p (pastRow (startedAt p x) r) (p .until) ≡ uncovered p (r .end + 1) (p .until)
@@ -86,11 +120,11 @@ module _ (p : Part) (some : p .from < p .until) (hi : ℕ) where
   removal-over : (over rest : List Row) → removal p (over ++ rest) ≡ removed p over ++ removal p rest
   unfolding removal flatMap
   removal-over [] rest = refl
-  removal-over (r ∷ rs) rest = rw (removal-over rs rest) (sym (append-assoc (reduced p r) (removed p rs) (removal p rest)))
+  removal-over (r ∷ rs) rest = rw (reduced-is p r, removal-over rs rest) (sym (append-assoc (piecesLeft p r) (removed p rs) (removal p rest)))
 
   insertion-row : (x : ℕ) (r : Row) (rs : List Row) → r .start < p .until → pieces (startedAt p x) r ≡ pieces p r
       → insertion (startedAt p x) (r ∷ rs) ≡ uncovered p x (r .start) ++ pieces p r ++ insertion (startedAt p (pastRow (startedAt p x) r)) rs
-  unfolding insertion
+  unfolding insertion joined
   insertion-row x r rs lt same =
       let q = startedAt p x in
       let start : min (p .until) (r .start) ≡ r .start = omega arith in

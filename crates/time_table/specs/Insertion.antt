@@ -5,7 +5,7 @@ use mathlib.Core.List.{List, [], _∷_, _++_}
 use Prim.Native.Nat.{ℕ, _+_, _<_, _^_, min, max}
 use Rattle.time_table.specs.declared.Row.{Row}
 use Rattle.time_table.specs.declared.Part.{Part}
-use Rattle.time_table.specs.Rows.{rowOf, tasks, Listed, cut}
+use Rattle.time_table.specs.Rows.{roomForIds, rowOf, tasks, Listed, cut}
 use Rattle.time_table.specs.Pieces.{beforePart, afterPart}
 
 -- the task alone
@@ -43,4 +43,4 @@ insertion p (r ∷ rs) = grown p r ++ insertion (startedAt p (pastRow p r)) rs
 pub record Insertable (p : Part) (r : Row) : Type 0 where
   pub listed : Listed r
   pub room : r .end + 1 < 2 ^ 32
-  pub there : max (p .from) (r .start) < min (p .until) (r .end + 1) → (r .count < 32) × (r .height + p .usage < 2 ^ 32)
+  pub there : max (p .from) (r .start) < min (p .until) (r .end + 1) → (r .count < roomForIds) × (r .height + p .usage < 2 ^ 32)

@@ -7,9 +7,10 @@ pub mod Adjustments
 pub mod Insertion
 pub mod Removal
 pub mod Overlap
-pub mod Overload
 pub mod Meaning
+pub mod Overload
 pub mod Update
+pub mod Panics
 pub mod Sentence
 pub mod PartByPart
 pub mod Demand

@@ -6,7 +6,7 @@ use Prim.Native.Nat.{ℕ, _+_, _≤_, _<_, _^_}
 use lib.Dec.{ltb, leb, eqb}
 use Rattle.time_table.specs.declared.Row.{Row}
 use Rattle.time_table.specs.declared.Part.{Part}
-use Rattle.time_table.specs.Rows.{tasks, Listed}
+use Rattle.time_table.specs.Rows.{roomForIds, tasks, Listed}
 use Rattle.time_table.specs.Order.{Each, Ordered, ticks}
 
 -- the instant t lies in the interval from x up to but without y
@@ -59,7 +59,7 @@ pub record Right (runs : Runs) (usage : ℕ → ℕ) (rows : List Row) : Type 0 
 
 -- what a table can hold: only 32 tasks ever run, a task that runs draws something, and 32 draws fit a height
 pub record Within (runs : Runs) (usage : ℕ → ℕ) : Type 0 where
-  pub few : (i t : ℕ) → 32 ≤ i → runs i t ≡ false
+  pub few : (i t : ℕ) → roomForIds ≤ i → runs i t ≡ false
   pub draws : (i t : ℕ) → runs i t ≡ true → 0 < usage i
   pub small : (i : ℕ) → usage i < 2 ^ 27
 
@@ -67,7 +67,7 @@ pub record Within (runs : Runs) (usage : ℕ → ℕ) : Type 0 where
 pub record PartOf (usage : ℕ → ℕ) (p : Part) : Type 0 where
   pub some : p .from < p .until
   pub top : p .until ≤ ticks
-  pub task : p .id < 32
+  pub task : p .id < roomForIds
   pub same : p .usage ≡ usage (p .id)
 
 -- `big` has all that runs in `small`, and the part p besides, which is not in `small`

@@ -8,6 +8,7 @@ use lib.ListN.{length}
 use Rattle.time_table.specs.declared.Row.{Row}
 use Rattle.time_table.specs.declared.Conflict.{Conflict}
 use Rattle.time_table.specs.Rows.{emptyRow, rowAt}
+use Rattle.time_table.specs.Meaning.{heightAt}
 
 unfoldable pub conflictIn : ℕ → List Row → Conflict
 conflictIn capacity [] = record { found = false; row = emptyRow }
@@ -25,6 +26,13 @@ pub record FirstOver (capacity : ℕ) (rows : List Row) (r : Row) : Type 0 where
   pub is : r ≡ rowAt rows at
   pub over : capacity < r .height
   pub first : (k : ℕ) → k < at → rowAt rows k .height ≤ capacity
+
+-- r, which starts at `lo` or later, is higher than the capacity, and starts at the first instant at which the rows are
+pub record FirstInstantOver (capacity lo : ℕ) (rows : List Row) (r : Row) : Type 0 where
+  pub after : lo ≤ r .start
+  pub high : capacity < r .height
+  pub height : heightAt (r .start) rows ≡ r .height
+  pub before : (t : ℕ) → t < r .start → heightAt t rows ≤ capacity
 
 -- no row is higher than the capacity
 abbrev pub NoneOver : ℕ → List Row → Type 0

@@ -9,10 +9,17 @@ use Rattle.time_table.specs.declared.Row.{Row}
 use Rattle.time_table.specs.declared.Table.{Table}
 use Rattle.time_table.specs.Held.{Held, pad}
 
+-- how many ids a row has room for, and how many rows a table
+abbrev pub roomForIds : ℕ
+roomForIds = 32
+
+abbrev pub roomForRows : ℕ
+roomForRows = 128
+
 -- the row of the instants start to end with this height and these tasks
 abbrev pub rowOf : ℕ → ℕ → ℕ → List ℕ → Row
 rowOf start end height tasks =
-    record { start = start; end = end; height = height; ids = pad 32 0 tasks; count = length tasks }
+    record { start = start; end = end; height = height; ids = pad roomForIds 0 tasks; count = length tasks }
 
 abbrev pub emptyRow : Row
 emptyRow = rowOf 0 0 0 []
@@ -23,11 +30,11 @@ tasks r = take (r .count) (r .ids)
 
 -- a row's array of ids has its tasks in front, and 0 after them
 abbrev pub Listed : Row → Type 0
-Listed r = Held 32 0 (r .ids) (r .count) (tasks r)
+Listed r = Held roomForIds 0 (r .ids) (r .count) (tasks r)
 
 -- the table of these rows
 abbrev pub tableOf : List Row → Table
-tableOf l = record { rows = pad 128 emptyRow l; count = length l }
+tableOf l = record { rows = pad roomForRows emptyRow l; count = length l }
 
 -- the rows of a table, in order
 abbrev pub rowsOf : Table → List Row
@@ -35,7 +42,7 @@ rowsOf t = take (t .count) (t .rows)
 
 -- a table's array has its rows in front, and empty rows after them
 abbrev pub Clean : Table → Type 0
-Clean t = Held 128 emptyRow (t .rows) (t .count) (rowsOf t)
+Clean t = Held roomForRows emptyRow (t .rows) (t .count) (rowsOf t)
 
 -- the row at a place of a list; past its end, a row with nothing in it, as the code's reads have it
 abbrev pub noRow : Row

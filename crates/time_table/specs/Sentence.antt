@@ -1,15 +1,15 @@
 -- What an insertion and a removal are to be, in the document's words and not by how they are found: rows that do not overlap the part stay. With no
--- overlapping row, an insertion puts one new row at its sorted place. Otherwise the overlapping rows are replaced, left to right, by their pieces.
+-- overlapping row, an insertion puts one new row at its sorted place. Otherwise the overlapping rows are replaced, left to right, by their pieces. The pieces
+-- are said here anew, so that these sentences judge the definitions that the code follows.
 use mathlib.Core.Path.{_≡_}
+use mathlib.Core.Bool.{cond}
 use mathlib.Core.List.{List, [], _∷_, _++_, flatMap}
-use Prim.Native.Nat.{ℕ, _+_, _-_, _≤_, _<_}
+use Prim.Native.Nat.{ℕ, _+_, _-_, _≤_, _<_, min, max}
+use lib.Dec.{eqb}
 use Rattle.time_table.specs.declared.Row.{Row}
 use Rattle.time_table.specs.declared.Part.{Part}
-use Rattle.time_table.specs.Rows.{rowOf, cut}
+use Rattle.time_table.specs.Rows.{rowOf, tasks, cut}
 use Rattle.time_table.specs.Order.{Each}
-use Rattle.time_table.specs.Pieces.{beforePart, afterPart}
-use Rattle.time_table.specs.Insertion.{alone, heightened}
-use Rattle.time_table.specs.Removal.{lessened}
 
 -- a row ends before a part, overlaps it, or starts at its end or later
 abbrev pub Before : Part → Row → Type 0
@@ -41,11 +41,21 @@ newRow p = rowOf (p .from) (p .until - 1) (p .usage) (p .id ∷ [])
 
 -- an uncovered piece or a gap, from x up to but without y: it carries the task alone, and there is none where it has no instants
 abbrev pub uncovered : Part → ℕ → ℕ → List Row
-uncovered p x y = cut (alone p) x y
+uncovered p x y = cut (rowOf 0 0 (p .usage) (p .id ∷ [])) x y
 
--- the untouched left piece of a row; the covered piece, the task put last in its list; the untouched right piece
+-- the untouched left piece of a row; the covered piece, with this height and this list; the untouched right piece
+abbrev pub leftPiece : Part → Row → List Row
+leftPiece p r = cut r (r .start) (min (p .from) (r .end + 1))
+
+abbrev pub coveredPiece : Part → Row → ℕ → List ℕ → List Row
+coveredPiece p r height list = cut (rowOf (r .start) (r .end) height list) (max (p .from) (r .start)) (min (p .until) (r .end + 1))
+
+abbrev pub rightPiece : Part → Row → List Row
+rightPiece p r = cut r (max (p .until) (r .start)) (r .end + 1)
+
+-- the pieces of a row into which a part is put: the covered piece has the task last in its list
 abbrev pub pieces : Part → Row → List Row
-pieces p r = beforePart p r ++ heightened p r ++ afterPart p r
+pieces p r = leftPiece p r ++ coveredPiece p r (r .height + p .usage) (tasks r ++ p .id ∷ []) ++ rightPiece p r
 
 -- the overlapping rows, of which r is the first: the pieces of each, with the gaps between them, and the uncovered piece after the last
 unfoldable pub replaced : Part → Row → List Row → List Row
@@ -58,7 +68,26 @@ unfoldable pub inserted : Part → List Row → List Row
 inserted p [] = newRow p ∷ []
 inserted p (r ∷ rs) = uncovered p (p .from) (r .start) ++ replaced p r rs
 
--- what a removal puts there: of each row the untouched left piece; the covered piece, which loses the task, and disappears if its height becomes 0; the
--- untouched right piece
+-- of the list x ∷ xs the last member, and the others
+unfoldable pub lastOf : ℕ → List ℕ → ℕ
+lastOf x [] = x
+lastOf x (y ∷ ys) = lastOf y ys
+
+unfoldable pub allButLast : ℕ → List ℕ → List ℕ
+allButLast x [] = []
+allButLast x (y ∷ ys) = x ∷ allButLast y ys
+
+-- a list that loses a member, whose place the last one takes
+unfoldable pub losing : ℕ → List ℕ → List ℕ
+losing id [] = []
+losing id (x ∷ []) = []
+losing id (x ∷ y ∷ ys) = cond (eqb x id) (lastOf y ys ∷ allButLast y ys) (x ∷ losing id (y ∷ ys))
+
+-- the pieces of a row from which a part is taken: the covered piece loses the task, and disappears if its height becomes 0
+abbrev pub piecesLeft : Part → Row → List Row
+piecesLeft p r =
+    leftPiece p r ++ cond (eqb (r .height) (p .usage)) [] (coveredPiece p r (r .height - p .usage) (losing (p .id) (tasks r))) ++ rightPiece p r
+
+-- what a removal puts in the place of the overlapping rows
 abbrev pub removed : Part → List Row → List Row
-removed p over = flatMap (λ (r : Row). beforePart p r ++ lessened p r ++ afterPart p r) over
+removed p over = flatMap (λ (r : Row). piecesLeft p r) over

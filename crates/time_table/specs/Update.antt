@@ -10,7 +10,7 @@ use Rattle.time_table.specs.declared.Row.{Row}
 use Rattle.time_table.specs.declared.Part.{Part}
 use Rattle.time_table.specs.declared.Table.{Table}
 use Rattle.time_table.specs.declared.Edited.{Edited}
-use Rattle.time_table.specs.Rows.{rowsOf, Clean}
+use Rattle.time_table.specs.Rows.{roomForIds, roomForRows, rowsOf, Clean}
 use Rattle.time_table.specs.Order.{ticks}
 use Rattle.time_table.specs.Table.{verdict}
 use Rattle.time_table.specs.Adjustments.{removedParts, addedParts}
@@ -26,7 +26,7 @@ after edit (p ∷ ps) rows = after edit ps (edit p rows)
 -- whether some one of them leaves over 128 rows
 unfoldable pub overAfter : (Part → List Row → List Row) → List Part → List Row → Bool
 overAfter edit [] rows = false
-overAfter edit (p ∷ ps) rows = ltb 128 (length (edit p rows)) || overAfter edit ps (edit p rows)
+overAfter edit (p ∷ ps) rows = ltb roomForRows (length (edit p rows)) || overAfter edit ps (edit p rows)
 
 -- the rows after an update from the old part to the new one, and whether some one part of it leaves over 128
 abbrev pub updatedRows : Part → Part → List Row → List Row
@@ -50,7 +50,7 @@ pub record Updatable (old new : Part) (t : Table) : Type 0 where
   pub clean : Clean t
   pub right : Right (moved (old .id) (has (old .from) (old .until)) runs) usage (rowsOf t)
   pub within : Within runs usage
-  pub task : old .id < 32
+  pub task : old .id < roomForIds
   pub draws : 0 < old .usage
   pub of : old .usage ≡ usage (old .id)
   pub same : new .id ≡ old .id

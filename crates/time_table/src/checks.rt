@@ -4,7 +4,7 @@
 // part, the Rust's insert_profile_new_mandatory_part, the one or the other is all of the part.
 ghost use mathlib.Core.Path.{_≡_};
 ghost use Prim.Native.Nat.{_+_, _<_, _^_};
-ghost use Rattle.time_table.specs.Rows.{Listed};
+ghost use Rattle.time_table.specs.Rows.{roomForIds, Listed};
 ghost use Rattle.time_table.specs.Pieces.{Cuts, beforePart, afterPart};
 ghost use Rattle.time_table.specs.Insertion.{alone, joined, gapBefore, heightened, Insertable};
 use crate::Part;
@@ -16,7 +16,7 @@ use crate::pieces::Piece;
 pub(crate) fn new_profile(part: Part) -> Row
     ensures { λ r. ⌜ r ≡ alone part ⌝ }
 {
-    let mut ids = [0u8; 32];
+    let mut ids = [0u8; Row::IDS];
     ids[0] = part.id;
     Row {
         start: 0,
@@ -30,7 +30,7 @@ pub(crate) fn new_profile(part: Part) -> Row
 // The row with one more task, put last.
 pub(crate) fn add_task_to_profile(profile: Row, part: Part) -> Row
     requires { ⌜ Listed profile ⌝ }
-    requires { ⌜ (profile .count < 32) × (profile .height + part .usage < 2 ^ 32) ⌝ }
+    requires { ⌜ (profile .count < roomForIds) × (profile .height + part .usage < 2 ^ 32) ⌝ }
     ensures { λ r. ⌜ r ≡ joined profile (part .id) (part .usage) ⌝ }
 {
     let mut row = profile;

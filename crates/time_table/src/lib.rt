@@ -30,13 +30,13 @@ pub struct Row {
     pub start: u32,
     pub end: u32,
     pub height: u32,
-    pub ids: [u8; 32],
+    pub ids: [u8; Row::IDS],
     pub count: u32,
 }
 
 // The rows of a time-table, in `rows` up to `count`. From there on they are the empty row.
 pub struct Table {
-    pub rows: [Row; 128],
+    pub rows: [Row; Table::ROWS],
     pub count: usize,
 }
 
@@ -65,7 +65,7 @@ impl Row {
             start: 0,
             end: 0,
             height: 0,
-            ids: [0u8; 32],
+            ids: [0u8; Row::IDS],
             count: 0,
         }
     }
@@ -81,7 +81,7 @@ impl Table {
     {
         let empty = Row::empty();
         Table {
-            rows: [empty; 128],
+            rows: [empty; Table::ROWS],
             count: 0,
         }
     }
