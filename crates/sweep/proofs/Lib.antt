@@ -1,3 +1,4 @@
+pub mod MandatoryPart
 pub mod InsertBefore
 pub mod Sorting
 pub mod InsertionLoop

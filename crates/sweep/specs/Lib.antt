@@ -1,4 +1,5 @@
 pub mod Tasks
+pub mod MandatoryPart
 pub mod Sorting
 pub mod Events
 pub mod Profile
