@@ -5,5 +5,6 @@ pub mod Events
 pub mod Profile
 pub mod Sweep
 pub mod Sentence
+pub mod EventsSentence
 pub mod Created
 pub mod JobsSentence
