@@ -11,8 +11,7 @@ use Rattle.time_table.specs.declared.Row.{Row}
 use Rattle.time_table.specs.Order.{Ordered}
 use Rattle.time_table.proofs.Sums.{lt-or-le}
 use Rattle.fit.specs.declared.Asked.{Asked}
-use Rattle.fit.specs.Fits.{seen}
-use Rattle.fit.specs.FirstFit.{moved, settled, answer, noneFound, firstFit}
+use Rattle.fit.specs.FirstFit.{seen, moved, settled, answer, noneFound, firstFit}
 
 module _ (asked : Asked) (capacity s : ℕ) (r : Row) where
   -- a row that ends before the candidate, one that starts behind the run, and one that is not too high leave it

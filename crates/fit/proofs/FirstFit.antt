@@ -14,8 +14,8 @@ use Rattle.time_table.proofs.Sums.{has-in, has-below, has-above, by-place, lt-o
 use Rattle.time_table.proofs.AtRow.{summed-before}
 use Rattle.fit.specs.declared.Asked.{Asked}
 use Rattle.fit.specs.declared.Fit.{Fit}
-use Rattle.fit.specs.Fits.{seen, Fits, IsFit, IsFirst, NoFit, IsFirstFit}
-use Rattle.fit.specs.FirstFit.{moved, settled, noneFound, firstFit}
+use Rattle.fit.specs.Fits.{Fits, IsFit, IsFirst, NoFit, IsFirstFit}
+use Rattle.fit.specs.FirstFit.{seen, moved, settled, noneFound, firstFit}
 use Rattle.fit.proofs.CandidateStart.{moved-after, moved-before, moved-under, moved-behind, by-row, settled-grows, settled-before, answer-found, answer-none, over-none, room-some}
 
 -- the two kinds of answer

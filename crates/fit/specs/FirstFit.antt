@@ -9,7 +9,10 @@ use Rattle.time_table.specs.Order.{Arranged}
 use Rattle.time_table.specs.Overlap.{overlaps}
 use Rattle.fit.specs.declared.Asked.{Asked}
 use Rattle.fit.specs.declared.Fit.{Fit}
-use Rattle.fit.specs.Fits.{seen}
+
+-- what a task that asks sees of a row's height: all of it
+abbrev pub seen : Asked → Row → ℕ
+seen asked r = r .height
 
 -- the row is too high for the task that asks
 abbrev pub blocks : Asked → ℕ → Row → Bool

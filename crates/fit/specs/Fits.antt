@@ -4,21 +4,13 @@ use mathlib.Core.Path.{_≡_}
 use mathlib.Core.List.{List}
 use Prim.Native.Nat.{ℕ, _+_, _≤_, _<_}
 use Rattle.time_table.specs.declared.Row.{Row}
-use Rattle.time_table.specs.Meaning.{summed}
+use Rattle.time_table.specs.Meaning.{heightAt}
 use Rattle.fit.specs.declared.Asked.{Asked}
 use Rattle.fit.specs.declared.Fit.{Fit}
 
--- what a task that asks sees of a row's height: all of it
-abbrev pub seen : Asked → Row → ℕ
-seen asked r = r .height
-
--- the height that it sees at the instant t: the table's, and 0 where no row is
-abbrev pub heightSeen : Asked → ℕ → List Row → ℕ
-heightSeen asked t rows = summed (seen asked) t rows
-
--- at every instant of the run from s, table height plus the task's usage is at most the capacity
+-- at every instant of the run from s, table height plus the task's usage is at most the capacity (height is 0 where no row is)
 abbrev pub Fits : List Row → ℕ → Asked → ℕ → Type 0
-Fits rows capacity asked s = (t : ℕ) → s ≤ t → t < s + asked .run → heightSeen asked t rows + asked .usage ≤ capacity
+Fits rows capacity asked s = (t : ℕ) → s ≤ t → t < s + asked .run → heightAt t rows + asked .usage ≤ capacity
 
 -- s is a start within the task's bounds at which the run fits
 pub record IsFit (rows : List Row) (capacity : ℕ) (asked : Asked) (s : ℕ) : Type 0 where

@@ -1,3 +1,4 @@
+pub mod MandatoryPart
 pub mod InsertBefore
 pub mod Sorting
 pub mod InsertionLoop
@@ -8,6 +9,7 @@ pub mod SweepRows
 pub mod JobOrder
 pub mod Placed
 pub mod JobsSentence
+pub mod EventsSentence
 pub mod Sentence
 pub mod Right
 pub mod Outcome

@@ -1,8 +1,10 @@
 pub mod Tasks
+pub mod MandatoryPart
 pub mod Sorting
 pub mod Events
 pub mod Profile
 pub mod Sweep
 pub mod Sentence
+pub mod EventsSentence
 pub mod Created
 pub mod JobsSentence

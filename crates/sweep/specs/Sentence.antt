@@ -1,13 +1,16 @@
 -- What the sweep is to be, in the document's words and not by how it is found: the rows are the maximal runs of instants with one
--- unchanging, non-empty set of covering tasks; a row's height is the sum of their usages; its list is ordered by latest start, then id.
-use mathlib.Core.Bool.{true, cond}
+-- unchanging, non-empty set of covering tasks; a row's height is the sum of their usages; its list is ordered by latest start, then id. If some
+-- height exceeds the capacity, the answer is overloaded with the earliest such row.
+use mathlib.Core.Bool.{true, false, cond}
 use mathlib.Core.Path.{_≡_}
 use mathlib.Core.List.{List, []}
 use Prim.Native.Nat.{ℕ, suc, _≤_, _<_}
 use Rattle.time_table.specs.declared.Row.{Row}
-use Rattle.time_table.specs.Rows.{rowOf, tasks}
+use Rattle.time_table.specs.Rows.{rowOf, emptyRow, tableOf, tasks}
+use Rattle.time_table.specs.Overload.{FirstOver, NoneOver}
 use Rattle.time_table.specs.Meaning.{total, occurs}
 use Rattle.sweep.specs.declared.Task.{Task}
+use Rattle.sweep.specs.declared.time_table_over_interval.Swept.{Swept}
 use Rattle.sweep.specs.Tasks.{latestOf, usageOf, runs}
 use Rattle.sweep.specs.Sorting.{In, Sorted}
 
@@ -45,3 +48,10 @@ pub record SweepOf (ts : List Task) (rows : List Row) : Type 0 where
   pub each : (r : Row) → In r rows → RunRow ts r
   pub sorted : Sorted Ahead rows
   pub all : (t i : ℕ) → runs ts i t ≡ true → Found t rows
+
+-- the answer: overloaded with the earliest row that is too high, and no rows; or the rows, none of which is too high, and no row
+pub record SweptOf (capacity : ℕ) (ts : List Task) (s : Swept) : Type 0 where
+  pub rows : List Row
+  pub sweeps : SweepOf ts rows
+  pub over : s .overloaded ≡ true → FirstOver capacity rows (s .row) × (s .table ≡ tableOf [])
+  pub fits : s .overloaded ≡ false → NoneOver capacity rows × (s .table ≡ tableOf rows) × (s .row ≡ emptyRow)

@@ -11,8 +11,7 @@ use Rattle.time_table.specs.Order.{Ordered, ticks, Arranged}
 use Rattle.time_table.proofs.RowsInOrder.{ordered-from}
 use Rattle.time_table.proofs.Held.{held-next, held-end}
 use Rattle.fit.specs.declared.Asked.{Asked}
-use Rattle.fit.specs.Fits.{seen}
-use Rattle.fit.specs.FirstFit.{moved, settled, answer, firstFit}
+use Rattle.fit.specs.FirstFit.{seen, moved, settled, answer, firstFit}
 use Rattle.fit.proofs.CandidateStart.{moved-after, moved-under, moved-behind, settled-before, answer-late, room-some}
 
 -- the pass with the candidate `start` and the rows from `at` on before it
