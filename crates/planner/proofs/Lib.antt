@@ -33,3 +33,4 @@ pub mod FitInstants
 pub mod HeardFit
 pub mod FirstRow
 pub mod Corners
+pub mod Edges
