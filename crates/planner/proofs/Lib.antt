@@ -37,3 +37,4 @@ pub mod HeardFit
 pub mod HeardIds
 pub mod FirstRow
 pub mod Corners
+pub mod Edges

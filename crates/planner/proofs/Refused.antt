@@ -1,10 +1,10 @@
 -- Each call is refused with each number exactly when document 01's table says so: some row of the table holds, and its tests lead to its answer and number.
 -- Assumes nothing.
-use mathlib.Core.Path.{_≡_, refl, sym, ap, _∙_, subst}
+use mathlib.Core.Path.{_≡_, refl, sym, ap, _∙_}
 use mathlib.Core.Bool.{Bool, true, false, cond, true≢false}
 use mathlib.Core.List.{List, [], map}
-use mathlib.Core.Logic.{_⊎_, _↔_, inl, inr, ⊎-elim}
-use Prim.Native.Nat.{ℕ}
+use mathlib.Core.Logic.{_↔_, ⊎-elim}
+use Prim.Native.Nat.{ℕ, _≤_}
 use native.Mathlib.Omega.{arith}
 use borrow.Author.Tests.{leb-true, leb-false, le-leb, lt-leb}
 use lib.Dec.{leb}
@@ -23,25 +23,23 @@ use Rattle.fit.specs.declared.Fit.{Fit}
 use Rattle.fit.specs.FirstFit.{firstFit}
 use Rattle.planner.specs.declared.Jobs.{Jobs}
 use Rattle.planner.specs.declared.Plan.{Plan}
-use Rattle.planner.specs.declared.Refusal.{Refusal}
-use Rattle.planner.specs.declared.Refusal.the-variants.{TooManyJobs, TooManyRows}
+use Rattle.planner.specs.declared.Refusal.the-variants.{TooManyRows}
 use Rattle.planner.specs.declared.Checked.{Checked}
 use Rattle.planner.specs.declared.Checked.the-variants.{Accepted, Refused}
 use Rattle.planner.specs.declared.Answer.{Answer}
 use Rattle.planner.specs.declared.FirstFit.{FirstFit}
-use Rattle.planner.specs.declared.Updated.{Updated}
-use Rattle.planner.specs.Refusals.{numberOf, Verdict, admitted, refused, verdict}
+use Rattle.planner.specs.Refusals.{Verdict, admitted, refused, verdict}
 use Rattle.planner.specs.Instants.{instant, tick, amount}
 use Rattle.planner.specs.Records.{noRecord}
-use Rattle.planner.specs.Checks.{unless, _then_, jobsChecked, boundsChecked, capacityChecked}
-use Rattle.planner.specs.Given.{CapacityGiven, capacity-out, capacity-in}
+use Rattle.planner.specs.Checks.{jobsChecked, boundsChecked, capacityChecked}
+use Rattle.planner.specs.Given.{CapacityGiven, capacity-out, capacity-in, BoundsGiven}
 use Rattle.planner.specs.Answers.{answerOf, refusedUpdate}
 use Rattle.planner.specs.Loads.{jobsOf, taskOf, loadChecked, acceptedLoad, loadedBy, loaded}
 use Rattle.planner.specs.Updates.{known, bounded, updatedBy, updated}
 use Rattle.planner.specs.Questions.{askedBy, startOf, fitOf, rowsShown}
-use Rattle.planner.specs.Refused.{judged, fitJudged, LoadGiven, too-many, bad-capacity, bad-job, load-in, editsBy, OverAfter, UpdateGiven, not-there, bad-bounds, too-long, update-in, FitGiven, nobody, fit-stale, fit-in, RowsGiven, rows-stale, rows-in}
+use Rattle.planner.specs.Refused.{judged, fitJudged, LoadGiven, too-many, bad-capacity, bad-job, load-in, HasTask, editsBy, OverAfter, UpdateGiven, not-there, bad-bounds, too-long, update-in, FitGiven, nobody, fit-stale, fit-in, RowsGiven, rows-stale, rows-in}
 use Rattle.planner.proofs.Tests.{by-test}
-use Rattle.planner.proofs.Given.{taken, refused-first, capacity-exactly, capacity-taken, bounds-exactly, bounds-taken}
+use Rattle.planner.proofs.Given.{refused-first, by-table, some-capacity, capacity-exactly, capacity-taken, some-bounds, bounds-exactly, bounds-taken}
 use Rattle.planner.proofs.InputOrder.{jobs-taken, jobs-refused}
 use Rattle.planner.proofs.Updating.{accepted-by, live-over-full, live-with-room, update-unknown, update-known}
 use Rattle.planner.proofs.Asking as asking
@@ -50,16 +48,18 @@ use Rattle.planner.proofs.OverLimit.{over-exactly}
 
 -- a load's checks
 module _ (jobs : Jobs) (capacity : ℤ) where
-  checks-found : LoadGiven jobs capacity (verdict (loadChecked jobs capacity))
-  unfolding loadChecked
-  checks-found = go (leb (jobs .count) 32) (capacityChecked capacity) (jobsChecked (jobsOf jobs)) refl (capacity-exactly capacity _ .0 refl) refl refl
+  some-load : (v : Verdict) × LoadGiven jobs capacity v
+  some-load =
+      let c = some-capacity capacity in
+      ⊎-elim
+      (λ few. go (leb-true (jobs .count) 32 few) (c .0) (c .1) (jobsChecked (jobsOf jobs)) refl)
+      (λ many. (_, too-many (leb-false (jobs .count) 32 many)))
+      (by-test (leb (jobs .count) 32))
     where
-      go : (few : Bool) (c r : Checked) {v : Verdict} → leb (jobs .count) 32 ≡ few → CapacityGiven capacity v → verdict c ≡ v → jobsChecked (jobsOf jobs) ≡ r
-          → LoadGiven jobs capacity (verdict (unless TooManyJobs few then c then r))
-      go false c r p g e q = too-many (leb-false (jobs .count) 32 p)
-      go true c r p (capacity-out out) e q = rw (refused-first c r e) (bad-capacity (leb-true (jobs .count) 32 p) out)
-      go true c (Refused why) p (capacity-in within) e q = rw (taken c e) (bad-job (leb-true (jobs .count) 32 p) within (jobs-refused (jobsOf jobs) .0 (ap verdict q)))
-      go true c Accepted p (capacity-in within) e q = rw (taken c e) (load-in (leb-true (jobs .count) 32 p) within (jobs-taken (jobsOf jobs) .0 q))
+      go : jobs .count ≤ 32 → (c : Verdict) → CapacityGiven capacity c → (r : Checked) → jobsChecked (jobsOf jobs) ≡ r → (v : Verdict) × LoadGiven jobs capacity v
+      go few (refused n) (capacity-out out) r e = (_, bad-capacity few out)
+      go few admitted (capacity-in within) (Refused why) e = (_, bad-job few within (jobs-refused (jobsOf jobs) .0 (ap verdict e)))
+      go few admitted (capacity-in within) Accepted e = (_, load-in few within (jobs-taken (jobsOf jobs) .0 e))
 
   checks-given : {v : Verdict} → LoadGiven jobs capacity v → verdict (loadChecked jobs capacity) ≡ v
   unfolding loadChecked
@@ -90,7 +90,7 @@ module _ (plan : Plan) (jobs : Jobs) (capacity : ℤ) where
       go (Refused why) = refl
 
   pub load-exactly : (v : Verdict) → (judged (loaded plan jobs capacity .answer) ≡ v) ↔ LoadGiven jobs capacity v
-  load-exactly v = (λ h. subst (LoadGiven jobs capacity) (sym load-judged ∙ h) (checks-found jobs capacity), λ g. load-judged ∙ checks-given jobs capacity g)
+  load-exactly = by-table (λ v g. load-judged ∙ checks-given jobs capacity g) (some-load jobs capacity)
 
   -- a refused load leaves the plan as it was, shows no row and places no job
   pub load-kept : {n : ℕ} → judged (loaded plan jobs capacity .answer) ≡ refused n
@@ -134,29 +134,21 @@ module _ (plan : Plan) (id earliest latest : ℤ) where
         rw (update-known plan id earliest latest Accepted there good, accepted-by plan (amount id) (tick earliest) (tick latest) stale)
         (scanned (plan .capacity) (sweep (set (tasksOf (plan .tasks)) (amount id) new)))
 
-  -- each update is refused for a reason of the table, and then nothing changes, or it is none of those
-  data Way : Updated → Type 0 where
-    stays : {why : Refusal} → UpdateGiven plan id earliest latest (refused (numberOf why)) → Way (refusedUpdate plan why)
-    goes : {u : Updated} → UpdateGiven plan id earliest latest admitted → judged (u .answer) ≡ admitted → Way u
-
-  update-way : Way (updated plan id earliest latest)
-  update-way = go (by-test (known (plan .tasks .count) id)) (boundsChecked earliest latest) (by-test (plan .live)) (by-test over) refl
+  some-update : (v : Verdict) × UpdateGiven plan id earliest latest v
+  some-update =
+      let b = some-bounds earliest latest in
+      ⊎-elim (λ k. go (has-task plan id .0 k) (b .0) (b .1)) (λ k. (_, not-there (no-task plan id .0 k))) (by-test (known (plan .tasks .count) id))
     where
-      go : (known (plan .tasks .count) id ≡ true) ⊎ (known (plan .tasks .count) id ≡ false) → (r : Checked) → (plan .live ≡ true) ⊎ (plan .live ≡ false) → (over ≡ true) ⊎ (over ≡ false)
-          → boundsChecked earliest latest ≡ r → Way (updated plan id earliest latest)
-      go (inr k) r live o e = rw (update-unknown plan id earliest latest k) (stays (not-there (no-task plan id .0 k)))
-      go (inl k) (Refused why) live o e =
-          rw (update-known plan id earliest latest (Refused why) k e) (stays (bad-bounds (has-task plan id .0 k) (bounds-exactly earliest latest _ .0 (ap verdict e))))
-      go (inl k) Accepted (inl live) (inl o) e =
-          rw (over-is k e live o) (stays (too-long (has-task plan id .0 k) (bounds-exactly earliest latest _ .0 (ap verdict e)) live (over-after .0 o)))
-      go (inl k) Accepted (inl live) (inr o) e =
-          goes (update-in (has-task plan id .0 k) (bounds-exactly earliest latest _ .0 (ap verdict e)) (λ l w. true≢false (sym (over-after .1 w) ∙ o))) (room-is k e live o)
-      go (inl k) Accepted (inr stale) o e =
-          goes (update-in (has-task plan id .0 k) (bounds-exactly earliest latest _ .0 (ap verdict e)) (λ l w. true≢false (sym l ∙ stale))) (stale-is k e stale)
-
-  way-given : {u : Updated} → Way u → UpdateGiven plan id earliest latest (judged (u .answer))
-  way-given (stays g) = g
-  way-given (goes g e) = rw e g
+      go : HasTask plan id → (b : Verdict) → BoundsGiven earliest latest b → (v : Verdict) × UpdateGiven plan id earliest latest v
+      go h (refused n) g = (_, bad-bounds h g)
+      go h admitted g =
+          ⊎-elim
+          (λ live. ⊎-elim
+          (λ o. (_, too-long h g live (over-after .0 o)))
+          (λ o. (_, update-in h g (λ l w. true≢false (sym (over-after .1 w) ∙ o))))
+          (by-test over))
+          (λ stale. (_, update-in h g (λ l w. true≢false (sym l ∙ stale))))
+          (by-test (plan .live))
 
   bounds-judged : {n : ℕ} (r : Checked) → verdict r ≡ refused n → judged (updatedBy r plan id earliest latest .answer) ≡ refused n
   bounds-judged Accepted e = let clash : _≡_ {A = ℕ} 0 1 = cc in absurd (omega arith)
@@ -176,16 +168,22 @@ module _ (plan : Plan) (id earliest latest : ℤ) where
       (by-test (plan .live))
 
   pub update-exactly : (v : Verdict) → (judged (updated plan id earliest latest .answer) ≡ v) ↔ UpdateGiven plan id earliest latest v
-  update-exactly v = (λ h. subst (UpdateGiven plan id earliest latest) h (way-given update-way), update-given)
+  update-exactly = by-table (λ v. update-given) some-update
 
   -- a refused update leaves the plan as it was and shows no row
+  bounds-kept : {n : ℕ} (r : Checked) → verdict r ≡ refused n
+      → (updatedBy r plan id earliest latest .plan ≡ plan) × (updatedBy r plan id earliest latest .row ≡ noRecord)
+  bounds-kept Accepted e = let clash : _≡_ {A = ℕ} 0 1 = cc in absurd (omega arith)
+  bounds-kept (Refused why) e = (refl, refl)
+
   pub update-kept : {n : ℕ} → judged (updated plan id earliest latest .answer) ≡ refused n
       → (updated plan id earliest latest .plan ≡ plan) × (updated plan id earliest latest .row ≡ noRecord)
-  update-kept {n} h = go update-way h
+  update-kept {n} h = go (update-exactly (refused n) .0 h)
     where
-      go : {u : Updated} → Way u → judged (u .answer) ≡ refused n → (u .plan ≡ plan) × (u .row ≡ noRecord)
-      go (stays g) e = (refl, refl)
-      go (goes g fine) e = let clash : _≡_ {A = ℕ} 0 1 = cc in absurd (omega arith)
+      go : {n : ℕ} → UpdateGiven plan id earliest latest (refused n) → (updated plan id earliest latest .plan ≡ plan) × (updated plan id earliest latest .row ≡ noRecord)
+      go (not-there n) = rw (update-unknown plan id earliest latest (no-task plan id .1 n)) (refl, refl)
+      go (bad-bounds h g) = rw (update-known plan id earliest latest _ (has-task plan id .1 h) refl) (bounds-kept (boundsChecked earliest latest) (bounds-exactly earliest latest _ .1 g))
+      go (too-long h g live w) = rw (over-is (has-task plan id .1 h) (bounds-taken g) live (over-after .1 w)) (refl, refl)
 
 -- the questions
 fit-found : (f : Fit) → fitJudged (startOf f) ≡ admitted
@@ -210,7 +208,7 @@ module _ (plan : Plan) where
         (by-test (known (plan .tasks .count) id))
 
     pub fit-exactly : (v : Verdict) → (fitJudged (fitOf plan id) ≡ v) ↔ FitGiven plan id v
-    fit-exactly v = (λ h. subst (FitGiven plan id) (sym (fit-given (some-fit .1)) ∙ h) (some-fit .1), fit-given)
+    fit-exactly = by-table (λ v. fit-given) some-fit
 
   rows-given : {v : Verdict} → RowsGiven plan v → verdict (rowsShown plan .answer) ≡ v
   unfolding rowsShown
@@ -221,7 +219,7 @@ module _ (plan : Plan) where
   some-rows = ⊎-elim (λ live. (_, rows-in live)) (λ stale. (_, rows-stale stale)) (by-test (plan .live))
 
   pub rows-exactly : (v : Verdict) → (verdict (rowsShown plan .answer) ≡ v) ↔ RowsGiven plan v
-  rows-exactly v = (λ h. subst (RowsGiven plan) (sym (rows-given (some-rows .1)) ∙ h) (some-rows .1), rows-given)
+  rows-exactly = by-table (λ v. rows-given) some-rows
 
   -- rows that are refused are none
   pub rows-kept : {n : ℕ} → verdict (rowsShown plan .answer) ≡ refused n → (rowsShown plan .rows ≡ pad 128 noRecord []) × (rowsShown plan .count ≡ 0)

@@ -22,3 +22,4 @@ pub mod SignedFit
 pub mod HeardFit
 pub mod FirstRow
 pub mod Corners
+pub mod Edges
