@@ -1,98 +1,141 @@
--- A copy of a plan's rows to a lent slice: each answer is given exactly when document 01's table gives it; the first places then hold the rows, and the others what they held; where it is refused all do.
+-- A copy of a plan's rows to a lent slice: each answer is given exactly when document 01's table gives it, and the slice then holds what it is to hold. Of any
+-- outcome that meets the promise: the promise says what the answer and the slice are, and the rows of a plan are refused with 9 or admitted.
 -- Assumes nothing.
-use mathlib.Core.Path.{_≡_, refl, sym, ap, _∙_, subst}
+use mathlib.Core.Path.{_≡_, refl, sym, ap, _∙_}
 use mathlib.Core.Bool.{Bool, true, false, cond}
 use mathlib.Core.List.{List, [], map}
-use mathlib.Core.Logic.{_↔_, ⊎-elim}
-use Prim.Native.Nat.{ℕ, _≤_, _<_}
+use mathlib.Core.Logic.{_⊎_, _↔_, inl, inr, ⊎-elim}
+use Prim.Native.Nat.{ℕ, _≤_, _-_}
+use native.Mathlib.Nat.{le-refl}
 use native.Mathlib.Omega.{arith}
 use borrow.Author.Tests.{le-leb, lt-leb}
 use lib.Dec.{leb}
-use lib.ListN.{length, getD, length-map, List·getD-append}
-use Rattle.time_table.specs.Rows.{rowsOf, rowAt}
-use Rattle.time_table.specs.Rows as table
+use lib.ListN.{length, take, drop, replicate, length-append, length-take}
+use Rattle.time_table.specs.Rows.{rowsOf}
 use Rattle.time_table.proofs.Sums.{lt-or-le}
-use Rattle.sweep.proofs.Placed.{get-map}
 use Rattle.planner.specs.declared.Plan.{Plan}
 use Rattle.planner.specs.declared.RowRecord.{RowRecord}
 use Rattle.planner.specs.declared.Refusal.{Refusal}
 use Rattle.planner.specs.declared.Refusal.the-variants.{Stale, ShortSlice}
 use Rattle.planner.specs.declared.Rows.{Rows}
+use Rattle.planner.specs.declared.Checked.{Checked}
 use Rattle.planner.specs.declared.Checked.the-variants.{Accepted, Refused}
-use Rattle.planner.specs.Checks.{unless}
-use Rattle.planner.specs.Records.{recordOf, noRow}
-use Rattle.planner.specs.Sound.{Sound}
+use Rattle.planner.specs.Refusals.{Verdict, admitted, refused, verdict}
+use Rattle.planner.specs.Checks.{unless, _then_}
+use Rattle.planner.specs.Records.{recordOf, noRecord}
 use Rattle.planner.specs.Questions.{rowsWith, rowsShown}
-use Rattle.planner.proofs.Tests.{by-test}
 use Rattle.lent.specs.declared.Copied.{Copied}
-use Rattle.lent.specs.Copies.{copiedBy, copyAnswer, copied, CopyGiven, stale, short, all}
-use Rattle.lent.proofs.Copying.{copied-length, copied-below, copied-beyond}
+use Rattle.lent.specs.Copies.{copiedBy, copyChecked, copyAnswer, copied, CopyJudged, CopyGiven, stale, short, all, CopyPlaces}
+use Rattle.lent.specs.Promises.{CopyPromise}
+use Rattle.lent.proofs.Copying.{copied-length, copied-first, copied-others, count-places}
 
+-- two checks, of which the first refuses; and of which it does not
+refused-first : (a b : Checked) (n k : ℕ) → verdict a ≡ refused k → CopyJudged (copiedBy (a then b) n) (refused k) 0
+refused-first Accepted b n k e = let clash : _≡_ {A = ℕ} 0 1 = cc in absurd (omega arith)
+refused-first (Refused why) b n k e = (e, refl)
+
+admitted-first : (a b : Checked) → verdict a ≡ admitted → (a then b) ≡ b
+admitted-first Accepted b e = refl
+admitted-first (Refused why) b e = let clash : _≡_ {A = ℕ} 0 1 = cc in absurd (omega arith)
+
+-- a copy that is accepted: the rows are, and all are counted
+accepted-first : (a b : Checked) (n : ℕ) → copiedBy (a then b) n .answer ≡ Accepted → a ≡ Accepted
+accepted-first Accepted b n e = refl
+accepted-first (Refused why) b n e = let clash : _≡_ {A = ℕ} 0 1 = cc in absurd (omega arith)
+
+accepted-count : (a : Checked) (n : ℕ) → copiedBy a n .answer ≡ Accepted → copiedBy a n .count ≡ n
+accepted-count Accepted n e = refl
+accepted-count (Refused why) n e = let clash : _≡_ {A = ℕ} 0 1 = cc in absurd (omega arith)
+
+refused-count : (a : Checked) (n : ℕ) (why : Refusal) → copiedBy a n .answer ≡ Refused why → copiedBy a n .count ≡ 0
+refused-count Accepted n why e = let clash : _≡_ {A = ℕ} 0 1 = cc in absurd (omega arith)
+refused-count (Refused other) n why e = refl
+
+-- the rows that a plan shows
 module _ (plan : Plan) where
-  -- the rows of the table, as a caller gets them
-  abbrev records : List RowRecord
-  records = map recordOf (rowsOf (plan .table))
+  abbrev showing : Bool → Rows
+  showing live = cond live (rowsWith Accepted (map recordOf (rowsOf (plan .table)))) (rowsWith (Refused Stale) [])
 
-  shown : {live : Bool} → plan .live ≡ live → rowsShown plan ≡ cond live (rowsWith Accepted records) (rowsWith (Refused Stale) [])
+  rows-judged : (verdict (rowsShown plan .answer) ≡ refused 9) ⊎ (verdict (rowsShown plan .answer) ≡ admitted)
   unfolding rowsShown
-  shown e = ap (λ (b : Bool). cond b (rowsWith Accepted records) (rowsWith (Refused Stale) [])) e
+  rows-judged = go (plan .live)
+    where
+      go : (live : Bool) → (verdict (showing live .answer) ≡ refused 9) ⊎ (verdict (showing live .answer) ≡ admitted)
+      go true = inr refl
+      go false = inl refl
 
-  module _ (sound : Sound plan) where
-    count-is : plan .live ≡ true → length records ≡ plan .table .count
-    count-is e = length-map (rowsOf (plan .table)) recordOf ∙ sym (sound .live e .clean .counts)
+  rows-inside : rowsShown plan .count ≤ length (rowsShown plan .rows)
+  unfolding rowsShown
+  rows-inside = go (plan .live)
+    where
+      go : (live : Bool) → showing live .count ≤ length (showing live .rows)
+      go true = let l = map recordOf (rowsOf (plan .table)) in omega (arith, length-append l (replicate (128 - length l) noRecord))
+      go false = omega arith
 
-    module _ (places : ℕ) where
-      abbrev answer : Copied
-      answer = copyAnswer (rowsShown plan) places
+-- any outcome that meets the promise
+module _ {plan : Plan} {before after : List RowRecord} {r : Copied} (kept : CopyPromise plan before r after) where
+  abbrev rows : Rows
+  rows = rowsShown plan
 
-      -- the answer of a live plan, from the test of the places
-      live-answer : plan .live ≡ true → (fits : Bool) → leb (plan .table .count) places ≡ fits → answer ≡ copiedBy (unless ShortSlice fits) (plan .table .count)
-      unfolding copyAnswer
-      live-answer e fits f =
-          ap (λ (t : Rows). copyAnswer t places) (shown e) ∙ ap (λ (n : ℕ). copiedBy (unless ShortSlice (leb n places)) n) (count-is e) ∙ ap (λ (b : Bool). copiedBy (unless ShortSlice b) (plan .table .count)) f
+  abbrev places : ℕ
+  places = length before
 
-      copy-given : {a : Copied} → CopyGiven plan places a → answer ≡ a
-      unfolding copyAnswer
-      copy-given (stale e) = ap (λ (t : Rows). copyAnswer t places) (shown e)
-      copy-given (short e l) = live-answer e false (lt-leb _ _ l)
-      copy-given (all e l) = live-answer e true (le-leb _ _ l)
+  abbrev check : Checked
+  check = copyChecked rows places
 
-      copy-found : CopyGiven plan places answer
-      copy-found = ⊎-elim (λ e. ⊎-elim (λ l. told (short e l)) (λ l. told (all e l)) (lt-or-le places (plan .table .count))) (λ e. told (stale e)) (by-test (plan .live))
-        where
-          told : {a : Copied} → CopyGiven plan places a → CopyGiven plan places answer
-          told g = subst (CopyGiven plan places) (sym (copy-given g)) g
+  answer-is : r ≡ copiedBy check (rows .count)
+  unfolding copyAnswer
+  answer-is = kept .answer
 
-      pub copy-exactly : (a : Copied) → (answer ≡ a) ↔ CopyGiven plan places a
-      copy-exactly a = (λ h. subst (CopyGiven plan places) h copy-found, copy-given)
+  -- the rows are admitted: by the test of the places
+  by-places : verdict (rows .answer) ≡ admitted → (fits : Bool) → leb (rows .count) places ≡ fits → r ≡ copiedBy (unless ShortSlice fits) (rows .count)
+  by-places e fits f =
+      answer-is ∙ ap (λ (c : Checked). copiedBy c (rows .count)) (admitted-first (rows .answer) _ e ∙ ap (unless ShortSlice) f)
 
-    module _ (before : List RowRecord) where
-      -- the slice after the copy
-      abbrev after : List RowRecord
-      after = copied (rowsShown plan .rows) (answer (length before) .count) before
+  copy-given : {v : Verdict} {n : ℕ} → CopyGiven rows places v n → CopyJudged r v n
+  copy-given (stale e) = rw answer-is (refused-first (rows .answer) _ (rows .count) 9 e)
+  copy-given (short e l) = rw (by-places e false (lt-leb _ _ l)) (refl, refl)
+  copy-given (all e l) = rw (by-places e true (le-leb _ _ l)) (refl, refl)
 
-      pub places-same : length after ≡ length before
-      places-same = copied-length (rowsShown plan .rows) (answer (length before) .count) before
+  copy-found : CopyGiven rows places (verdict (r .answer)) (r .count)
+  copy-found =
+      ⊎-elim
+      (λ e. told (stale e))
+      (λ e. ⊎-elim (λ l. told (short e l)) (λ l. told (all e l)) (lt-or-le places (rows .count)))
+      (rows-judged plan)
+    where
+      told : {v : Verdict} {n : ℕ} → CopyGiven rows places v n → CopyGiven rows places (verdict (r .answer)) (r .count)
+      told g = rw (copy-given g .0, copy-given g .1) g
 
-      -- a copy that is accepted: the first places hold the rows in order
-      pub first-places : plan .live ≡ true → plan .table .count ≤ length before → (k : ℕ) (d : RowRecord) → k < plan .table .count → getD after k d ≡ recordOf (rowAt (rowsOf (plan .table)) k)
-      first-places e fits k d lt =
-          let inside : k < length records = omega (arith, count-is e) in
-          let whole : answer (length before) .count ≡ plan .table .count = ap (λ (a : Copied). a .count) (copy-given (length before) (all e fits)) in
-          copied-below (rowsShown plan .rows) (answer (length before) .count) before k d (omega arith) (omega arith)
-          ∙ ap (λ (t : Rows). getD (t .rows) k noRow) (shown e)
-          ∙ List·getD-append records _ noRow k inside
-          ∙ get-map recordOf table.noRow noRow (rowsOf (plan .table)) k (omega (arith, length-map (rowsOf (plan .table)) recordOf))
+  pub copy-exactly : (v : Verdict) (n : ℕ) → CopyJudged r v n ↔ CopyGiven (rowsShown plan) (length before) v n
+  copy-exactly v n = (λ h. rw (sym (h .0), sym (h .1)) copy-found, copy-given)
 
-      -- and the places beyond them what they held
-      pub other-places : (k : ℕ) (d : RowRecord) → answer (length before) .count ≤ k → getD after k d ≡ getD before k d
-      other-places k d = copied-beyond (rowsShown plan .rows) (answer (length before) .count) before k d
+  inside : r .count ≤ places
+  inside = rw (kept .answer) (count-places rows places)
 
-      -- a copy that is refused: the slice is as it was
-      unwritten : {a : Copied} {why : Refusal} → CopyGiven plan (length before) a → a .answer ≡ Refused why → a .count ≡ 0
-      unwritten (stale e) h = refl
-      unwritten (short e l) h = refl
-      unwritten (all e l) h = let clash : _≡_ {A = ℕ} 0 1 = cc in absurd (omega arith)
+  all-counted : r .answer ≡ Accepted → r .count ≡ rows .count
+  all-counted e = ap (λ (c : Copied). c .count) answer-is ∙ accepted-count check (rows .count) (sym (ap (λ (c : Copied). c .answer) answer-is) ∙ e)
 
-      pub refused-as-before : (why : Refusal) → answer (length before) .answer ≡ Refused why → after ≡ before
-      refused-as-before why h = ap (λ (n : ℕ). copied (rowsShown plan .rows) n before) (unwritten (copy-found (length before)) h)
+  -- what a caller finds in the slice
+  pub copy-places : CopyPlaces (rowsShown plan) before r after
+  copy-places =
+      record {
+        same-length = ap length (kept .slice) ∙ copied-length (rows .rows) (r .count) before;
+        first =
+            λ e.
+            let n = all-counted e in
+            ap (take (r .count)) (kept .slice)
+            ∙ copied-first (rows .rows) (r .count) before (omega (arith, n, rows-inside plan)) inside
+            ∙ ap (λ (k : ℕ). take k (rows .rows)) n;
+        counted = λ e. omega (arith, length-take (rows .count) (rows .rows), rows-inside plan, all-counted e);
+        others = ap (drop (r .count)) (kept .slice) ∙ copied-others (rows .rows) (r .count) before (r .count) (le-refl (r .count));
+        untouched =
+            λ why e.
+            kept .slice
+            ∙ ap (λ (n : ℕ). copied (rows .rows) n before)
+            (ap (λ (c : Copied). c .count) answer-is ∙ refused-count check (rows .count) why (sym (ap (λ (c : Copied). c .answer) answer-is) ∙ e));
+      }
+
+  -- the rows are shown where they are copied
+  pub copy-shown : r .answer ≡ Accepted → rowsShown plan .answer ≡ Accepted
+  copy-shown e = accepted-first (rows .answer) _ (rows .count) (sym (ap (λ (c : Copied). c .answer) answer-is) ∙ e)

@@ -1,49 +1,53 @@
--- A copy of rows to a slice, place by place: the slice keeps its length, its first places hold the rows, and its other places hold what they held.
+-- A copy of rows to a slice: the slice keeps its length, its first places hold the rows, and its other places hold what they held. Each store adds one row
+-- behind those that are there.
 -- Assumes nothing.
-use mathlib.Core.Path.{_≡_, refl, sym, _∙_, subst}
+use mathlib.Core.Path.{_≡_, refl, sym, ap, _∙_}
 use mathlib.Core.Bool.{Bool, true, false}
-use mathlib.Core.List.{List}
-use mathlib.Core.Logic.{⊎-elim}
-use Prim.Native.Nat.{ℕ, zero, suc, _≤_, _<_, zero-le}
-use native.Mathlib.Nat.{eq-or-lt-of-le, le-of-suc-le-suc, not-suc-le-zero, le-trans, le-suc, le-refl, lt-irrefl}
+use mathlib.Core.List.{List, [], _∷_, _++_}
+use Prim.Native.Nat.{ℕ, zero, suc, _≤_, zero-le}
+use native.Mathlib.Nat.{le-refl}
+use native.Mathlib.Omega.{arith}
 use lib.Dec.{T, leb, leb→le}
-use lib.ListN.{length, getD, length-set}
-use lib.Seq.{getD-set-same, getD-set-other}
+use lib.ListN.{length, getD, take, drop, length-set}
+use lib.Seq.{take-suc, take-suc-set, drop-set-lt}
 use Rattle.planner.specs.declared.RowRecord.{RowRecord}
 use Rattle.planner.specs.declared.Rows.{Rows}
+use Rattle.planner.specs.declared.Refusal.{Refusal}
 use Rattle.planner.specs.declared.Checked.{Checked}
-use Rattle.planner.specs.declared.Refusal.the-variants.{ShortSlice}
 use Rattle.planner.specs.Checks.{unless, _then_}
 use Rattle.planner.specs.Records.{noRow}
-use Rattle.lent.specs.Copies.{copiedBy, copyAnswer, copied}
+use Rattle.lent.specs.Copies.{copiedBy, copyAnswer, rowFor, copied}
 
 pub copied-length : (xs : List RowRecord) (n : ℕ) (ys : List RowRecord) → length (copied xs n ys) ≡ length ys
 copied-length xs zero ys = refl
-copied-length xs (suc i) ys = length-set (copied xs i ys) i (getD xs i noRow) ∙ copied-length xs i ys
+copied-length xs (suc i) ys = length-set (copied xs i ys) i (rowFor xs i) ∙ copied-length xs i ys
 
-pub copied-beyond : (xs : List RowRecord) (n : ℕ) (ys : List RowRecord) (k : ℕ) (d : RowRecord) → n ≤ k → getD (copied xs n ys) k d ≡ getD ys k d
-copied-beyond xs zero ys k d h = refl
-copied-beyond xs (suc i) ys k d h =
-    getD-set-other (copied xs i ys) i k (getD xs i noRow) d (λ e. lt-irrefl i (subst (λ (j : ℕ). i < j) e h)) ∙ copied-beyond xs i ys k d (le-trans (le-suc i) h)
+-- the row for a place is the one at that place
+row-for : (xs : List RowRecord) (i : ℕ) → rowFor xs i ≡ getD xs i noRow
+row-for xs i = ap (λ (k : ℕ). getD xs k noRow) (omega arith)
 
-pub copied-below : (xs : List RowRecord) (n : ℕ) (ys : List RowRecord) (k : ℕ) (d : RowRecord) → k < n → n ≤ length ys → getD (copied xs n ys) k d ≡ getD xs k noRow
-copied-below xs zero ys k d l h = absurd (not-suc-le-zero l)
-copied-below xs (suc i) ys k d l h =
-    ⊎-elim
-    (λ e. subst (λ (j : ℕ). getD (copied xs (suc i) ys) j d ≡ getD xs j noRow) (sym e) (getD-set-same (copied xs i ys) i (getD xs i noRow) d (subst (λ (m : ℕ). i < m) (sym (copied-length xs i ys)) h)))
-    (λ less. getD-set-other (copied xs i ys) i k (getD xs i noRow) d (λ e. lt-irrefl k (subst (λ (j : ℕ). k < j) (sym e) less)) ∙ copied-below xs i ys k d less (le-trans (le-suc i) h))
-    (eq-or-lt-of-le (le-of-suc-le-suc l))
+pub copied-first : (xs : List RowRecord) (n : ℕ) (ys : List RowRecord) → n ≤ length xs → n ≤ length ys → take n (copied xs n ys) ≡ take n xs
+copied-first xs zero ys l h = refl
+copied-first xs (suc i) ys l h =
+    take-suc-set (copied xs i ys) i _ (omega (arith, copied-length xs i ys))
+    ∙ ap (λ (rows : List RowRecord). rows ++ (rowFor xs i ∷ [])) (copied-first xs i ys (omega arith) (omega arith))
+    ∙ ap (λ (row : RowRecord). take i xs ++ (row ∷ [])) (row-for xs i)
+    ∙ sym (take-suc xs i noRow l)
+
+pub copied-others : (xs : List RowRecord) (n : ℕ) (ys : List RowRecord) (k : ℕ) → n ≤ k → drop k (copied xs n ys) ≡ drop k ys
+copied-others xs zero ys k h = refl
+copied-others xs (suc i) ys k h = drop-set-lt k (copied xs i ys) i _ h ∙ copied-others xs i ys k (omega arith)
 
 -- a count is copied where the answer is no refusal, and then it fits
-by-places : (answer : Checked) (test : Bool) (n l : ℕ) → (T test → n ≤ l) → copiedBy (answer then unless ShortSlice test) n .count ≤ l
-by-places Checked.Accepted true n l h = h tt
-by-places Checked.Accepted false n l h = zero-le
-by-places (Checked.Refused why) test n l h = zero-le
+by-places : (answer : Checked) (why : Refusal) (test : Bool) (n l : ℕ) → (T test → n ≤ l) → copiedBy (answer then unless why test) n .count ≤ l
+by-places Checked.Accepted why true n l h = h tt
+by-places Checked.Accepted why false n l h = zero-le
+by-places (Checked.Refused other) why test n l h = zero-le
 
 pub count-places : (rows : Rows) (l : ℕ) → copyAnswer rows l .count ≤ l
 unfolding copyAnswer
-count-places rows l = by-places (rows .answer) (leb (rows .count) l) (rows .count) l (leb→le (rows .count) l)
+count-places rows l = by-places (rows .answer) _ (leb (rows .count) l) (rows .count) l (leb→le (rows .count) l)
 
 pub count-rows : (rows : Rows) (l : ℕ) → copyAnswer rows l .count ≤ rows .count
 unfolding copyAnswer
-count-rows rows l = by-places (rows .answer) (leb (rows .count) l) (rows .count) (rows .count) (λ _. le-refl (rows .count))
+count-rows rows l = by-places (rows .answer) _ (leb (rows .count) l) (rows .count) (rows .count) (λ _. le-refl (rows .count))

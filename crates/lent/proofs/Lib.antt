@@ -1,4 +1,4 @@
-pub mod Says
+pub mod WithoutPlan
 pub mod Locals
 pub mod Tests
 pub mod Lent
@@ -6,4 +6,5 @@ pub mod PlanField
 pub mod LentArray
 pub mod Copying
 pub mod CopyGiven
+pub mod LentHistories
 pub mod Unique

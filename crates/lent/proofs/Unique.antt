@@ -5,6 +5,8 @@ use mathlib.Core.List.{List}
 use lib.IntN.{ℤ}
 use Rattle.planner.specs.declared.Jobs.{Jobs}
 use Rattle.planner.specs.declared.Plan.{Plan}
+use Rattle.planner.specs.declared.Loaded.{Loaded}
+use Rattle.planner.specs.declared.Updated.{Updated}
 use Rattle.planner.specs.declared.RowRecord.{RowRecord}
 use Rattle.planner.specs.Questions.{rowsShown}
 use Rattle.lent.specs.declared.Changed.{Changed}
@@ -12,24 +14,36 @@ use Rattle.lent.specs.declared.Placing.{Placing}
 use Rattle.lent.specs.declared.Copied.{Copied}
 use Rattle.lent.specs.declared.controller.Controller.{Controller}
 use Rattle.lent.specs.Copies.{copied}
-use Rattle.lent.specs.Unique.{LoadPromise, UpdatePromise, CopyPromise, BeginPromise, StepPromise}
+use Rattle.lent.specs.Promises.{LentLoadPromise, LentUpdatePromise, CopyPromise, FreshControllerPromise, BeginPromise, StepPromise}
+use Rattle.lent.proofs.WithoutPlan.{changedOf, placingOf}
+
+-- the controller that keeps an update
+abbrev keeper : Updated → Controller
+keeper u = record { plan = u .plan; last = changedOf u }
 
 module _ (plan : Plan) where
-  pub load-unique : (jobs : Jobs) (capacity : ℤ) {r s : Placing} {a b : Plan} → LoadPromise plan jobs capacity r a → LoadPromise plan jobs capacity s b → (r ≡ s) × (a ≡ b)
-  load-unique jobs capacity p q = (p .0 ∙ sym (q .0), p .1 ∙ sym (q .1))
+  pub lent-load-unique : (jobs : Jobs) (capacity : ℤ) {r s : Placing} {a b : Plan} → LentLoadPromise plan jobs capacity r a → LentLoadPromise plan jobs capacity s b → (r ≡ s) × (a ≡ b)
+  lent-load-unique jobs capacity p q =
+      let same = p .whole ∙ sym (q .whole) in
+      (ap placingOf same, ap (λ (u : Loaded). u .plan) same)
 
-  pub update-unique : (id earliest latest : ℤ) {r s : Changed} {a b : Plan}
-      → UpdatePromise plan id earliest latest r a → UpdatePromise plan id earliest latest s b → (r ≡ s) × (a ≡ b)
-  update-unique id earliest latest p q = (p .0 ∙ sym (q .0), p .1 ∙ sym (q .1))
+  pub lent-update-unique : (id earliest latest : ℤ) {r s : Changed} {a b : Plan}
+      → LentUpdatePromise plan id earliest latest r a → LentUpdatePromise plan id earliest latest s b → (r ≡ s) × (a ≡ b)
+  lent-update-unique id earliest latest p q =
+      let same = p .whole ∙ sym (q .whole) in
+      (ap changedOf same, ap (λ (u : Updated). u .plan) same)
 
   pub copy-unique : (out : List RowRecord) {r s : Copied} {a b : List RowRecord} → CopyPromise plan out r a → CopyPromise plan out s b → (r ≡ s) × (a ≡ b)
   copy-unique out p q =
-      let same = p .0 ∙ sym (q .0) in
-      (same, p .1 ∙ ap (λ (c : Copied). copied (rowsShown plan .rows) (c .count) out) same ∙ sym (q .1))
+      let same = p .answer ∙ sym (q .answer) in
+      (same, p .slice ∙ ap (λ (c : Copied). copied (rowsShown plan .rows) (c .count) out) same ∙ sym (q .slice))
+
+pub fresh-controller-unique : {r s : Controller} → FreshControllerPromise r → FreshControllerPromise s → r ≡ s
+fresh-controller-unique p q = p .whole ∙ sym (q .whole)
 
 module _ (controller : Controller) where
   pub begin-unique : (jobs : Jobs) (capacity : ℤ) {r s : Controller} → BeginPromise controller jobs capacity r → BeginPromise controller jobs capacity s → r ≡ s
-  begin-unique jobs capacity p q = p .0 ∙ sym (q .0)
+  begin-unique jobs capacity p q = ap keeper (p .whole ∙ sym (q .whole))
 
   pub step-unique : (id earliest latest : ℤ) {r s : Controller} → StepPromise controller id earliest latest r → StepPromise controller id earliest latest s → r ≡ s
-  step-unique id earliest latest p q = p .0 ∙ sym (q .0)
+  step-unique id earliest latest p q = ap keeper (p .whole ∙ sym (q .whole))

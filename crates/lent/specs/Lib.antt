@@ -1,4 +1,5 @@
 pub mod Changes
-pub mod Kept
+pub mod Controllers
 pub mod Copies
-pub mod Unique
+pub mod Promises
+pub mod LentHistory

@@ -1,7 +1,8 @@
 // A controller that keeps one plan and lends it to be changed.
 ghost use mathlib.Core.Path.{_≡_};
 ghost use Rattle.planner.specs.Sound.{Sound};
-ghost use Rattle.lent.specs.Kept.{freshController, told, begun, stepped};
+ghost use Rattle.lent.specs.Controllers.{told};
+ghost use Rattle.lent.specs.Promises.{FreshControllerPromise, BeginPromise, StepPromise};
 use crate::Changed;
 use crate::Placing;
 use crate::in_place::load_in_place;
@@ -20,8 +21,7 @@ pub struct Controller {
 impl Controller {
     // A controller of a plan without tasks.
     pub fn fresh() -> Controller
-        ensures { λ r. ⌜ r ≡ freshController ⌝ }
-        ensures { λ r. ⌜ Sound (r .plan) ⌝ }
+        ensures { λ r. ⌜ FreshControllerPromise r ⌝ }
     {
         let row = records::no_record();
         Controller {
@@ -46,8 +46,7 @@ fn answer_of(placing: Placing) -> Changed
 // Lends the kept plan to a load, and keeps what it answers.
 pub fn begin(controller: Controller, jobs: Jobs, capacity: i32) -> Controller
     requires { ⌜ Sound (controller .plan) ⌝ }
-    ensures { λ r. ⌜ r ≡ begun controller jobs capacity ⌝ }
-    ensures { λ r. ⌜ Sound (r .plan) ⌝ }
+    ensures { λ r. ⌜ BeginPromise controller jobs capacity r ⌝ }
 {
     let mut kept = controller;
     let placing = load_in_place(&mut kept.plan, jobs, capacity);
@@ -58,8 +57,7 @@ pub fn begin(controller: Controller, jobs: Jobs, capacity: i32) -> Controller
 // Lends the kept plan to an update, and keeps what it answers.
 pub fn step(controller: Controller, id: i32, earliest: i32, latest: i32) -> Controller
     requires { ⌜ Sound (controller .plan) ⌝ }
-    ensures { λ r. ⌜ r ≡ stepped controller id earliest latest ⌝ }
-    ensures { λ r. ⌜ Sound (r .plan) ⌝ }
+    ensures { λ r. ⌜ StepPromise controller id earliest latest r ⌝ }
 {
     let mut kept = controller;
     kept.last = update_in_place(&mut kept.plan, id, earliest, latest);

@@ -1,11 +1,9 @@
 // The copy of a plan's rows to a lent slice of row records.
 ghost use mathlib.Core.Path.{_≡_};
 ghost use Prim.Native.Nat.{_<_};
-ghost use lib.ListN.{length, getD};
 ghost use Rattle.planner.specs.Sound.{Sound};
-ghost use Rattle.planner.specs.Questions.{rowsShown};
-ghost use Rattle.planner.specs.Records.{noRow};
-ghost use Rattle.lent.specs.Copies.{copyAnswer, copied};
+ghost use Rattle.lent.specs.Copies.{copyAnswer, rowFor};
+ghost use Rattle.lent.specs.Promises.{CopyPromise};
 use crate::Copied;
 use planner::Checked;
 use planner::Plan;
@@ -16,7 +14,7 @@ use planner::Rows;
 // The row at a place.
 pub(crate) fn row_at(rows: Rows, at: usize) -> RowRecord
     requires { ⌜ at < 128 ⌝ }
-    ensures { λ r. ⌜ r ≡ getD (rows .rows) at noRow ⌝ }
+    ensures { λ r. ⌜ r ≡ rowFor (rows .rows) at ⌝ }
 {
     rows.rows[at]
 }
@@ -45,8 +43,7 @@ pub(crate) fn check_copy(rows: Rows, places: usize) -> Copied
 // slice is short.
 pub fn copy_rows(plan: Plan, out: &mut [RowRecord]) -> Copied
     requires { ⌜ Sound plan ⌝ }
-    ensures { λ r. ⌜ r ≡ copyAnswer (rowsShown plan) (length (now (out .entry))) ⌝ }
-    ensures { λ r. ⌜ now (out .exit) ≡ copied (rowsShown plan .rows) (r .count) (now (out .entry)) ⌝ }
+    ensures { λ r. ⌜ CopyPromise plan (now (out .entry)) r (now (out .exit)) ⌝ }
 {
     let rows = plan.rows();
     let copied = check_copy(rows, out.len());

@@ -44,13 +44,12 @@ use denote.Exit.{yes}
 use Rattle.planner.specs.declared.Plan.{Plan}
 use Rattle.planner.specs.declared.RowRecord.{RowRecord}
 use Rattle.planner.specs.Sound.{Sound}
-use Rattle.planner.specs.Questions.{rowsShown}
 use Rattle.planner.proofs.Plan as T
 use Rattle.planner.proofs.Plan.Laws as T′
 use Rattle.planner.proofs.RowRecord as R
 use Rattle.planner.proofs.RowRecord.Laws as R′
 use Rattle.lent.specs.declared.Copied.{Copied}
-use Rattle.lent.specs.Copies.{copyAnswer, copied}
+use Rattle.lent.specs.Promises.{CopyPromise}
 use Rattle.lent.proofs.Locals.{nthTy}
 use Rattle.lent.proofs.LentArray as lent
 use Rattle.lent.proofs.LentArray.{lends, backs}
@@ -171,7 +170,7 @@ module _ {M : Type 1} (𝓤 : URA M) (H : Heap 𝓤) (A : Atoms 𝓤) (W : Given
         calls-at ! fm (Copy 𝓤 H A at-mem run) known (to-copy ν l₃ γ) (and-then ! (load ! (from ! (stop !)) (look ! 15 refl)) (and-then ! (load ! (from ! (stop !)) (look ! 6 refl)) (no-more !))) (λ w.
         use1 W (later (some (λ (r : Copied). ((‵ (flft (ν ∷ []) fullShare) ⊛ ‵ ftrue) ⊛ ‵ (N.the-row .own r (w ∷ []))) ⊛ raw (ensured 𝓤 H A copy-rows.ended (copy-rows.clauses 𝓤 H A at-mem run) (ν ∷ [], tt) (p, (x l₃ γ, tt)) tt r)))) (id⊢ 𝓤 _) $ await ! tt $ pick ! (λ r.
         split ! $ move ! (1 ∷ []) $
-        use1 W (some (λ (ws : Unit {0} × (List RowRecord × Unit {0})). ‵ (lasts copy-rows.ended (ν ∷ [], tt) (p, (x l₃ γ, tt)) ws) ⊛ (raw (fact 𝓤 (r ≡ copyAnswer (rowsShown p) (length ys))) ⊛ raw (fact 𝓤 (ws .1 .0 ≡ copied (rowsShown p .rows) (r .count) ys))))) (id⊢ 𝓤 _) $ pick ! (λ ws.
+        use1 W (some (λ (ws : Unit {0} × (List RowRecord × Unit {0})). ‵ (lasts copy-rows.ended (ν ∷ [], tt) (p, (x l₃ γ, tt)) ws) ⊛ raw (fact 𝓤 (CopyPromise p ys r (ws .1 .0))))) (id⊢ 𝓤 _) $ pick ! (λ ws.
         split ! $ move ! (1 ∷ []) $ drop ! $ fsplit ! $ move ! (1 ∷ []) $ fsplit ! $ fsplit ! $ move ! (1 ∷ []) $ feqL ! (λ l.
         -- [the last list; true; true; the token and the result; the lender's part; …]
         move ! (3 ∷ []) $ split ! $ move ! (1 ∷ []) $ peeks ! N.the-row (Is N.the-row) (shows 𝓤 H A N.the-row) r (w ∷ []) (λ is.

@@ -45,6 +45,7 @@ use Rattle.planner.specs.declared.Jobs.{Jobs}
 use Rattle.planner.specs.declared.Loaded.{Loaded}
 use Rattle.planner.specs.Sound.{Sound}
 use Rattle.planner.specs.Loads.{loaded}
+use Rattle.planner.specs.History.{withoutPlaces}
 use Rattle.planner.proofs.Plan as T
 use Rattle.planner.proofs.Plan.Laws as T′
 use Rattle.planner.proofs.Jobs as K
@@ -52,9 +53,9 @@ use Rattle.planner.proofs.Jobs.Laws as K′
 use Rattle.lent.specs.declared.Changed.{Changed}
 use Rattle.lent.specs.declared.Placing.{Placing}
 use Rattle.lent.specs.declared.controller.Controller.{Controller}
-use Rattle.lent.specs.Changes.{placing}
-use Rattle.lent.specs.Kept.{told}
-use Rattle.lent.proofs.Says.{says2}
+use Rattle.lent.specs.Changes.{wholeUpdate, wholeLoad}
+use Rattle.lent.specs.Controllers.{told}
+use Rattle.lent.specs.Promises.{LentLoadPromise}
 use Rattle.lent.proofs.Lent.{lends, backs}
 use Rattle.lent.proofs.PlanField.{off, with, mach, mach-n, mach-c, x, is-plan, is-with, again-is, Way, field-out, field-in}
 use Rattle.lent.proofs.Changed as N
@@ -88,8 +89,9 @@ stayed = (stay-none (λ _. S.the-row) yes, (stay-none (λ _. K.the-row) yes, (st
 abbrev ty : ℕ → Ty
 ty k = nthTy k code-mir.locals
 
-same : (n : Changed) (r : Placing) (u : Loaded) → n ≡ told r → r ≡ placing u → n ≡ told (placing u)
-same n r u kept answered = kept ∙ ap told answered
+-- what is kept of an answer, and the plan
+same : (n : Changed) (r : Placing) (p : Plan) (u : Loaded) → n ≡ told r → wholeLoad r p ≡ u → wholeUpdate n p ≡ withoutPlaces u
+same n r p u kept whole = ap (λ (k : Changed). wholeUpdate k p) kept ∙ ap withoutPlaces whole
 
 module _ {M : Type 1} (𝓤 : URA M) (H : Heap 𝓤) (A : Atoms 𝓤) (at-mem : Memory → SProp 𝓤) (run : Routine → Fun 𝓤) where
   -- the contracts that the proof cites
@@ -120,10 +122,10 @@ module _ {M : Type 1} (𝓤 : URA M) (H : Heap 𝓤) (A : Atoms 𝓤) (W : Given
   abbrev Post : Val → SProp 𝓤
   Post = walkOf 𝓤 H A self.ended stayed (self.clauses 𝓤 H A at-mem run) .post ((tt, tt, tt, a, vals), tt)
 
-  exits : (p : Plan) (r : Changed) → Is S.the-row (with p r) (LL.vals S.the-type S′.the-laws (with p r)) → r ≡ told (placing (loaded (c .plan) js z)) → p ≡ loaded (c .plan) js z .plan → Sound p → ent 𝓤 (emp 𝓤) (Post (mach-c (with p r)))
-  exits p r is answered changes sound =
+  exits : (p : Plan) (r : Changed) → Is S.the-row (with p r) (LL.vals S.the-type S′.the-laws (with p r)) → wholeUpdate r p ≡ withoutPlaces (loaded (c .plan) js z) → Sound p → ent 𝓤 (emp 𝓤) (Post (mach-c (with p r)))
+  exits p r is whole sound =
       qed W [] ∵ suffices ! _ (ends-at 𝓤 H A self.ended stayed (self.clauses 𝓤 H A at-mem run) W ((tt, tt, tt, a, vals), tt) (mach-c (with p r)) (with p r) (tt, (tt, (tt, tt))) (tt, (tt, (tt, tt)))) $
-      says2 ! (λ j. with (changes j) (answered j)) sound $
+      says ! (record { whole = whole; sound = sound }) $
       owned ! S.the-row (Is S.the-row) (LL.makes S.the-type S′.the-plain 𝓤 H A) (with p r) _ is $
       nothing ! $ owned ! i32 (Is i32) (sint-makes 𝓤 H A W w32) z _ is-z $ fjoin ! $ owned ! K.the-row (Is K.the-row) (LL.makes K.the-type K′.the-plain 𝓤 H A) js _ is-js $ fjoin ! $
       owned ! S.the-row (Is S.the-row) (LL.makes S.the-type S′.the-plain 𝓤 H A) c _ is-c $ fjoin ! $ nothing ! $ done !
@@ -147,7 +149,7 @@ module _ {M : Type 1} (𝓤 : URA M) (H : Heap 𝓤) (A : Atoms 𝓤) (W : Given
 
   module _ (C : Calls 𝓤 H) (Λ : Loops 𝓤 H) (fm : FmC 𝓤 H (W .laws) C) (known : Triple 𝓤 (C #callee) (Place 𝓤 H A at-mem run)) (known-answer : Triple 𝓤 (C #answer) (Answers 𝓤 H A at-mem run)) where
     -- the walk from the passing of the parameters on, at any postcondition Q that `exits` reaches
-    module _ (Q : Val → SProp 𝓤) (left : (p : Plan) (n : Changed) → Is S.the-row (with p n) (LL.vals S.the-type S′.the-laws (with p n)) → n ≡ told (placing (loaded (c .plan) js z)) → p ≡ loaded (c .plan) js z .plan → Sound p → ent 𝓤 (emp 𝓤) (Q (mach-c (with p n)))) where
+    module _ (Q : Val → SProp 𝓤) (left : (p : Plan) (n : Changed) → Is S.the-row (with p n) (LL.vals S.the-type S′.the-laws (with p n)) → wholeUpdate n p ≡ withoutPlaces (loaded (c .plan) js z) → Sound p → ent 𝓤 (emp 𝓤) (Q (mach-c (with p n)))) where
       module _ (l₀ l₁ l₂ l₃ l₄ l₅ l₆ l₇ : ℕ) (τ₁ τ₂ τ₃ τ₅ τ₆ : Ty) (v₁ v₂ v₃ v₆ w : Val) where
         -- what is only given up
         abbrev Rest : Ty → List (Item 𝓤)
@@ -183,9 +185,9 @@ module _ {M : Type 1} (𝓤 : URA M) (H : Heap 𝓤) (A : Atoms 𝓤) (W : Given
         Back p = ‵ (fat fullShare (ty 4) l₄ 0 (mach-c (with p (c .last)))) ∷ ‵ (fdies (ty 4) l₄) ∷ ‵ (froom (ty 7) l₇ 0) ∷ ‵ (fdies (ty 7) l₇) ∷ Rest (ty 0)
 
         -- from the taking back of the field on
-        ends : (p : Plan) (r : Placing) → Is T.the-row p (LL.vals T.the-type T′.the-laws p) → Is U.the-row r (w ∷ []) → r ≡ placing (loaded (c .plan) js z) → p ≡ loaded (c .plan) js z .plan → Sound p
+        ends : (p : Plan) (r : Placing) → Is T.the-row p (LL.vals T.the-type T′.the-laws p) → Is U.the-row r (w ∷ []) → LentLoadPromise (c .plan) js z r p
             → ent 𝓤 (⋆ 𝓤 H A (Back p)) (Wp 𝓤 H C Λ (After (ty 4) (ty 7)) code-mir.t-4 (atReturn 𝓤 H (After (ty 4) (ty 7)) Q))
-        ends p r is-p is answered changes sound =
+        ends p r is-p is lent =
             qed W (Back p) ∵ exec ! C Λ (After (ty 4) (ty 7)) code-mir.t-4 (atRet (After (ty 4) (ty 7)) Q) $
             -- `answer_of`. [_4; …; room for _7 (2); …; _6 (4); …; _5 (6); …; _3 (8); …; _2 (10); …; _1 (12); …; room for _0 (14); …]
             use0 W (raw (Answers 𝓤 H A at-mem run .pre (to-answer r w))) (goes-answer r w is) $
@@ -196,7 +198,7 @@ module _ {M : Type 1} (𝓤 : URA M) (H : Heap 𝓤) (A : Atoms 𝓤) (W : Given
             land ! (from ! (stop !)) (init ! 3 refl (LL.lawful N.the-type N′.the-laws 𝓤 H A W .typed n _ is-n .0)) $
             rewrite ! 3 (λ (u : Val). ‵ (fat fullShare (ty 7) l₇ 0 u)) (ap only (LL.tells N.the-type N′.the-laws n _ is-n)) refl $ drop ! $
             by ! (stores (S.struct .name) T′.mir N′.mir (mach p) (mach-n (c .last)) (mach-n n) (LL.lawful N.the-type N′.the-laws 𝓤 H A W .typed n _ (again-is n v is-n) .0) (LL.lawful S.the-type S′.the-laws 𝓤 H A W .typed (with p n) _ (is-with p n is-p (again-is n v is-n)) .0)
-            (left p n (is-with p n is-p (again-is n v is-n)) (same n r (loaded (c .plan) js z) kept answered) changes sound))))))
+            (left p n (is-with p n is-p (again-is n v is-n)) (same n r p (loaded (c .plan) js z) kept (lent .whole)) (lent .sound)))))))
 
       module _ (ready : Sound (c .plan)) (l₀ l₁ l₂ l₃ l₄ l₅ l₆ l₇ : ℕ) where
         abbrev En : Env 𝓤 H
@@ -221,8 +223,8 @@ module _ {M : Type 1} (𝓤 : URA M) (H : Heap 𝓤) (A : Atoms 𝓤) (W : Given
             calls-at ! fm (Place 𝓤 H A at-mem run) known (to-place ν l₄ γ) (and-then ! (load ! (from ! (stop !)) (look ! 5 refl)) (and-then ! (load ! (from ! (stop !)) (look ! 12 refl)) (and-then ! (load ! (from ! (stop !)) (look ! 10 refl)) (no-more !)))) (λ w.
             use1 W (later (some (λ (r : Placing). ((‵ (flft (ν ∷ []) fullShare) ⊛ ‵ ftrue) ⊛ ‵ (U.the-row .own r (w ∷ []))) ⊛ raw (ensured 𝓤 H A place.ended (place.clauses 𝓤 H A at-mem run) (ν ∷ [], tt) (x c l₄ γ, (js, (z, tt))) tt r)))) (id⊢ 𝓤 _) $ await ! tt $ pick ! (λ r.
             split ! $ move ! (1 ∷ []) $
-            use1 W (some (λ (ws : Plan × (Unit {0} × (Unit {0} × Unit {0}))). ‵ (lasts place.ended (ν ∷ [], tt) (x c l₄ γ, (js, (z, tt))) ws) ⊛ (raw (fact 𝓤 (r ≡ placing (loaded (c .plan) js z))) ⊛ (raw (fact 𝓤 (ws .0 ≡ loaded (c .plan) js z .plan)) ⊛ raw (fact 𝓤 (Sound (ws .0))))))) (id⊢ 𝓤 _) $ pick ! (λ ws.
-            split ! $ move ! (1 ∷ []) $ split ! $ heard ! (r ≡ placing (loaded (c .plan) js z)) (λ answered. split ! $ heard ! (ws .0 ≡ loaded (c .plan) js z .plan) (λ changes. heard ! (Sound (ws .0)) (λ sound.
+            use1 W (some (λ (ws : Plan × (Unit {0} × (Unit {0} × Unit {0}))). ‵ (lasts place.ended (ν ∷ [], tt) (x c l₄ γ, (js, (z, tt))) ws) ⊛ raw (fact 𝓤 (LentLoadPromise (c .plan) js z r (ws .0))))) (id⊢ 𝓤 _) $ pick ! (λ ws.
+            split ! $ move ! (1 ∷ []) $ heard ! (LentLoadPromise (c .plan) js z r (ws .0)) (λ lent.
             fsplit ! $ move ! (2 ∷ []) $ split ! $ move ! (1 ∷ []) $ peeks ! U.the-row (Is U.the-row) (shows 𝓤 H A U.the-row) r (w ∷ []) (λ is.
             -- [the result's; the token; the last value; true; the lender's part; the way back; room for _7 (6); …; _6 (8); …; room for _5 (10); …]
             land ! (from ! (stop !)) (init ! 10 refl (LL.lawful U.the-type U′.the-laws 𝓤 H A W .typed r _ is .0)) $ drop ! $
@@ -230,7 +232,7 @@ module _ {M : Type 1} (𝓤 : URA M) (H : Heap 𝓤) (A : Atoms 𝓤) (W : Given
             use3 W (later (given (Is T.the-row (ws .0) (LL.vals T.the-type T′.the-laws (ws .0))) (‵ (fat fullShare T′.mir l₄ off (mach (ws .0)))))) (backs T.the-type T′.the-laws T′.the-plain T′.mir (λ b o v. refl) 𝓤 H A W (named 0) (ν ∷ []) l₄ off γ (ws .0)) $ await ! tt $ learn ! (λ is₁.
             move ! (3 ∷ 0 ∷ []) $ use2 W (‵ (fat fullShare (ty 4) l₄ 0 (mach-c (with (ws .0) (c .last))))) (field-in 𝓤 H A W c l₄ (ws .0)) $
             -- [_4; true; true; room for _7 (3); …; _6 (5); …; _5 (7); …; _4's end (9); _3 (10); …; _2 (12); …; _1 (14); …; room for _0 (16); …]
-            keep ! (0 ∷ 9 ∷ 3 ∷ 4 ∷ 5 ∷ 6 ∷ 7 ∷ 8 ∷ 10 ∷ 11 ∷ 12 ∷ 13 ∷ 14 ∷ 15 ∷ 16 ∷ 17 ∷ []) $ by ! (ends l₀ l₁ l₂ l₃ l₄ l₅ l₆ l₇ (ty 1) (ty 2) (ty 3) (ty 5) (ty 6) (mach-c c) mach-js mach-z (vptr l₄ off) w (ws .0) r is₁ is answered changes sound)))))))))))
+            keep ! (0 ∷ 9 ∷ 3 ∷ 4 ∷ 5 ∷ 6 ∷ 7 ∷ 8 ∷ 10 ∷ 11 ∷ 12 ∷ 13 ∷ 14 ∷ 15 ∷ 16 ∷ 17 ∷ []) $ by ! (ends l₀ l₁ l₂ l₃ l₄ l₅ l₆ l₇ (ty 1) (ty 2) (ty 3) (ty 5) (ty 6) (mach-c c) mach-js mach-z (vptr l₄ off) w (ws .0) r is₁ is lent)))))))))
 
     walk : Sound (c .plan) → ent 𝓤 (onEntry 𝓤 H A self.signature tt tt a vals) (WpFn 𝓤 H C Λ code.function (mach-c c ∷ mach-js ∷ mach-z ∷ []) Post)
     walk ready =

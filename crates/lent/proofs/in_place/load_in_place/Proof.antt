@@ -56,8 +56,7 @@ use Rattle.planner.proofs.Plan.load.Symbol as upd-def
 use Rattle.planner.proofs.Plan.load.Symbol.{name as #callee}
 use Rattle.planner.proofs.Plan.load.Met as upd-thm
 use Rattle.lent.specs.declared.Placing.{Placing}
-use Rattle.lent.specs.Changes.{placing}
-use Rattle.lent.proofs.Says.{says3}
+use Rattle.lent.proofs.WithoutPlan.{placingOf}
 use Rattle.lent.proofs.Placing as N
 use Rattle.lent.proofs.Placing.Laws as N′
 use Rattle.lent.proofs.in_place.load_in_place.Key.{name as #self}
@@ -107,15 +106,15 @@ module _ {M : Type 1} (𝓤 : URA M) (H : Heap 𝓤) (A : Atoms 𝓤) (W : Given
   abbrev Post : Val → SProp 𝓤
   Post = walkOf 𝓤 H A self.ended stayed (self.clauses 𝓤 H A at-mem run) .post (((κ, tt), (q, tt), tt, x, at), tt)
 
-  exits : (r : Loaded) → r ≡ loaded h js z → Sound (r .plan) → Is N.the-row (placing r) (mach-n (placing r) ∷ [])
-      → ent 𝓤 (sep 𝓤 (A .obs γ (T.the-row .coded .code (r .plan))) (sep 𝓤 (A .bor κ (Body (mem T.the-row) b o γ)) (A .lft κ q))) (Post (mach-n (placing r)))
+  exits : (r : Loaded) → r ≡ loaded h js z → Sound (r .plan) → Is N.the-row (placingOf r) (mach-n (placingOf r) ∷ [])
+      → ent 𝓤 (sep 𝓤 (A .obs γ (T.the-row .coded .code (r .plan))) (sep 𝓤 (A .bor κ (Body (mem T.the-row) b o γ)) (A .lft κ q))) (Post (mach-n (placingOf r)))
   exits r is sound is-n =
       qed W (‵ (fobs γ (T.the-row .coded .code (r .plan))) ∷ ‵ (fbor κ (Body (mem T.the-row) b o γ)) ∷ ‵ (flft κ q) ∷ []) ∵
-      suffices ! _ (ends-at 𝓤 H A self.ended stayed (self.clauses 𝓤 H A at-mem run) W (((κ, tt), (q, tt), tt, x, at), tt) (mach-n (placing r)) (placing r) (r .plan, (tt, (tt, tt))) (tt, (tt, (tt, tt)))) $
-      says3 ! (ap placing is) (ap (λ (u : Loaded). u .plan) is) sound $
+      suffices ! _ (ends-at 𝓤 H A self.ended stayed (self.clauses 𝓤 H A at-mem run) W (((κ, tt), (q, tt), tt, x, at), tt) (mach-n (placingOf r)) (placingOf r) (r .plan, (tt, (tt, tt))) (tt, (tt, (tt, tt)))) $
+      says ! (record { whole = is; sound = sound }) $
       nothing ! $ move ! (3 ∷ 0 ∷ []) $ join ! $ frame ! $ feqI ! (List Val) (vptr b o ∷ []) (vptr b o ∷ []) refl $ fjoin3 ! $
       nothing ! $ owned ! i32 (Is i32) (sint-makes 𝓤 H A W w32) z _ is-z $ fjoin ! $ owned ! K.the-row (Is K.the-row) (LL.makes K.the-type K′.the-plain 𝓤 H A) js _ is-js $ fjoin ! $
-      move ! (1 ∷ 0 ∷ []) $ fjoin ! $ owned ! N.the-row (Is N.the-row) (LL.makes N.the-type N′.the-plain 𝓤 H A) (placing r) _ is-n $ move ! (1 ∷ 0 ∷ []) $ done !
+      move ! (1 ∷ 0 ∷ []) $ fjoin ! $ owned ! N.the-row (Is N.the-row) (LL.makes N.the-type N′.the-plain 𝓤 H A) (placingOf r) _ is-n $ move ! (1 ∷ 0 ∷ []) $ done !
 
   -- what the callee's triple binds outside, and that the caller has what it asks
   abbrev to-upd : Upd 𝓤 H A at-mem run .Ghost
@@ -149,7 +148,7 @@ module _ {M : Type 1} (𝓤 : URA M) (H : Heap 𝓤) (A : Atoms 𝓤) (W : Given
         land ! (from ! (stop !)) (init ! 9 refl (LL.lawful U.the-type U′.the-laws 𝓤 H A W .typed r _ is .0)) $
         rewrite ! 9 (λ (u : Val). ‵ (fat fullShare U′.mir l₄ 0 u)) (ap only (LL.tells U.the-type U′.the-laws r _ is)) refl $
         assigns ! (of-opd ! (load ! (from ! (fld ! refl (stop !))) (look-in ! 9 (sub ! 0 refl (whole !))))) (from ! (hop ! (look ! 15 refl) (stop !))) (store-raw ! 1 refl (LL.lawful T.the-type T′.the-laws 𝓤 H A W .typed (r .plan) _ (inner r w is) .0)) $
-        assigns ! (agg ! (and-then ! (load ! (from ! (fld ! refl (stop !))) (look-in ! 9 (sub ! 1 refl (whole !)))) (and-then ! (load ! (from ! (fld ! refl (stop !))) (look-in ! 9 (sub ! 2 refl (whole !)))) (and-then ! (load ! (from ! (fld ! refl (stop !))) (look-in ! 9 (sub ! 3 refl (whole !)))) (no-more !))))) (from ! (stop !)) (init ! 17 refl (LL.lawful N.the-type N′.the-laws 𝓤 H A W .typed (placing r) _ (inner-n r w is) .0)) $
+        assigns ! (agg ! (and-then ! (load ! (from ! (fld ! refl (stop !))) (look-in ! 9 (sub ! 1 refl (whole !)))) (and-then ! (load ! (from ! (fld ! refl (stop !))) (look-in ! 9 (sub ! 2 refl (whole !)))) (and-then ! (load ! (from ! (fld ! refl (stop !))) (look-in ! 9 (sub ! 3 refl (whole !)))) (no-more !))))) (from ! (stop !)) (init ! 17 refl (LL.lawful N.the-type N′.the-laws 𝓤 H A W .typed (placingOf r) _ (inner-n r w is) .0)) $
         -- the borrow is closed at the plan in the result
         drop ! $ owned ! T.the-row (Is T.the-row) (LL.makes T.the-type T′.the-plain 𝓤 H A) (r .plan) _ (inner r w is) $ move ! (1 ∷ 0 ∷ 3 ∷ 4 ∷ 5 ∷ []) $ closes ! tt T.the-row (r .plan) (mach (r .plan) ∷ []) b o $
         -- [obs; the borrow; the token; what it owned; the jobs' and the capacity's; _5 (5); …; _4 (7); …; _3 (9); …; _2 (11); …; _1 (13); …; _0 (15); …]
@@ -160,8 +159,8 @@ module _ {M : Type 1} (𝓤 : URA M) (H : Heap 𝓤) (A : Atoms 𝓤) (W : Given
         inner : (r : Loaded) (w : Val) → Is U.the-row r (w ∷ []) → Is T.the-row (r .plan) (mach (r .plan) ∷ [])
         inner r w is = LL.owed U.the-type U′.the-laws r _ is .0
 
-        inner-n : (r : Loaded) (w : Val) → Is U.the-row r (w ∷ []) → Is N.the-row (placing r) (mach-n (placing r) ∷ [])
-        inner-n r w is = LL.owes N.the-type N′.the-laws (placing r) (LL.owed U.the-type U′.the-laws r _ is .1 .0, (LL.owed U.the-type U′.the-laws r _ is .1 .1 .0, (LL.owed U.the-type U′.the-laws r _ is .1 .1 .1 .0, tt)))
+        inner-n : (r : Loaded) (w : Val) → Is U.the-row r (w ∷ []) → Is N.the-row (placingOf r) (mach-n (placingOf r) ∷ [])
+        inner-n r w is = LL.owes N.the-type N′.the-laws (placingOf r) (LL.owed U.the-type U′.the-laws r _ is .1 .0, (LL.owed U.the-type U′.the-laws r _ is .1 .1 .0, (LL.owed U.the-type U′.the-laws r _ is .1 .1 .1 .0, tt)))
 
 module _ {M : Type 1} (𝓤 : URA M) (H : Heap 𝓤) (A : Atoms 𝓤) (W : Given 𝓤 H A) (at-mem : Memory → SProp 𝓤) (run : Routine → Fun 𝓤) where
   self-walks : (C : Calls 𝓤 H) (Λ : Loops 𝓤 H) → FmC 𝓤 H (W .laws) C → Triple 𝓤 (C #callee) (Upd 𝓤 H A at-mem run) → Walks 𝓤 H A self.ended stayed (WpFn 𝓤 H C Λ code.function) (self.clauses 𝓤 H A at-mem run)

@@ -53,8 +53,7 @@ use Rattle.planner.proofs.Plan.update.Symbol as upd-def
 use Rattle.planner.proofs.Plan.update.Symbol.{name as #callee}
 use Rattle.planner.proofs.Plan.update.Met as upd-thm
 use Rattle.lent.specs.declared.Changed.{Changed}
-use Rattle.lent.specs.Changes.{changed}
-use Rattle.lent.proofs.Says.{says3}
+use Rattle.lent.proofs.WithoutPlan.{changedOf}
 use Rattle.lent.proofs.Changed as N
 use Rattle.lent.proofs.Changed.Laws as N′
 use Rattle.lent.proofs.in_place.update_in_place.Key.{name as #self}
@@ -101,15 +100,15 @@ module _ {M : Type 1} (𝓤 : URA M) (H : Heap 𝓤) (A : Atoms 𝓤) (W : Given
   abbrev Post : Val → SProp 𝓤
   Post = walkOf 𝓤 H A self.ended stayed (self.clauses 𝓤 H A at-mem run) .post (((κ, tt), (q, tt), tt, x, at), tt)
 
-  exits : (r : Updated) → r ≡ updated h i e l → Sound (r .plan) → Is N.the-row (changed r) (mach-n (changed r) ∷ [])
-      → ent 𝓤 (sep 𝓤 (A .obs γ (T.the-row .coded .code (r .plan))) (sep 𝓤 (A .bor κ (Body (mem T.the-row) b o γ)) (A .lft κ q))) (Post (mach-n (changed r)))
+  exits : (r : Updated) → r ≡ updated h i e l → Sound (r .plan) → Is N.the-row (changedOf r) (mach-n (changedOf r) ∷ [])
+      → ent 𝓤 (sep 𝓤 (A .obs γ (T.the-row .coded .code (r .plan))) (sep 𝓤 (A .bor κ (Body (mem T.the-row) b o γ)) (A .lft κ q))) (Post (mach-n (changedOf r)))
   exits r is sound is-n =
       qed W (‵ (fobs γ (T.the-row .coded .code (r .plan))) ∷ ‵ (fbor κ (Body (mem T.the-row) b o γ)) ∷ ‵ (flft κ q) ∷ []) ∵
-      suffices ! _ (ends-at 𝓤 H A self.ended stayed (self.clauses 𝓤 H A at-mem run) W (((κ, tt), (q, tt), tt, x, at), tt) (mach-n (changed r)) (changed r) (r .plan, (tt, (tt, (tt, tt)))) (tt, (tt, (tt, (tt, tt))))) $
-      says3 ! (ap changed is) (ap (λ (u : Updated). u .plan) is) sound $
+      suffices ! _ (ends-at 𝓤 H A self.ended stayed (self.clauses 𝓤 H A at-mem run) W (((κ, tt), (q, tt), tt, x, at), tt) (mach-n (changedOf r)) (changedOf r) (r .plan, (tt, (tt, (tt, tt)))) (tt, (tt, (tt, (tt, tt))))) $
+      says ! (record { whole = is; sound = sound }) $
       nothing ! $ move ! (3 ∷ 0 ∷ []) $ join ! $ frame ! $ feqI ! (List Val) (vptr b o ∷ []) (vptr b o ∷ []) refl $ fjoin3 ! $
       nothing ! $ owned ! i32 (Is i32) (sint-makes 𝓤 H A W w32) l _ is-l $ fjoin ! $ owned ! i32 (Is i32) (sint-makes 𝓤 H A W w32) e _ is-e $ fjoin ! $ owned ! i32 (Is i32) (sint-makes 𝓤 H A W w32) i _ is-i $ fjoin ! $
-      move ! (1 ∷ 0 ∷ []) $ fjoin ! $ owned ! N.the-row (Is N.the-row) (LL.makes N.the-type N′.the-plain 𝓤 H A) (changed r) _ is-n $ move ! (1 ∷ 0 ∷ []) $ done !
+      move ! (1 ∷ 0 ∷ []) $ fjoin ! $ owned ! N.the-row (Is N.the-row) (LL.makes N.the-type N′.the-plain 𝓤 H A) (changedOf r) _ is-n $ move ! (1 ∷ 0 ∷ []) $ done !
 
   -- what the callee's triple binds outside, and that the caller has what it asks
   abbrev to-upd : Upd 𝓤 H A at-mem run .Ghost
@@ -143,7 +142,7 @@ module _ {M : Type 1} (𝓤 : URA M) (H : Heap 𝓤) (A : Atoms 𝓤) (W : Given
         land ! (from ! (stop !)) (init ! 9 refl (LL.lawful U.the-type U′.the-laws 𝓤 H A W .typed r _ is .0)) $
         rewrite ! 9 (λ (u : Val). ‵ (fat fullShare U′.mir l₅ 0 u)) (ap only (LL.tells U.the-type U′.the-laws r _ is)) refl $
         assigns ! (of-opd ! (load ! (from ! (fld ! refl (stop !))) (look-in ! 9 (sub ! 0 refl (whole !))))) (from ! (hop ! (look ! 17 refl) (stop !))) (store-raw ! 1 refl (LL.lawful T.the-type T′.the-laws 𝓤 H A W .typed (r .plan) _ (inner r w is) .0)) $
-        assigns ! (agg ! (and-then ! (load ! (from ! (fld ! refl (stop !))) (look-in ! 9 (sub ! 1 refl (whole !)))) (and-then ! (load ! (from ! (fld ! refl (stop !))) (look-in ! 9 (sub ! 2 refl (whole !)))) (no-more !)))) (from ! (stop !)) (init ! 19 refl (LL.lawful N.the-type N′.the-laws 𝓤 H A W .typed (changed r) _ (inner-n r w is) .0)) $
+        assigns ! (agg ! (and-then ! (load ! (from ! (fld ! refl (stop !))) (look-in ! 9 (sub ! 1 refl (whole !)))) (and-then ! (load ! (from ! (fld ! refl (stop !))) (look-in ! 9 (sub ! 2 refl (whole !)))) (no-more !)))) (from ! (stop !)) (init ! 19 refl (LL.lawful N.the-type N′.the-laws 𝓤 H A W .typed (changedOf r) _ (inner-n r w is) .0)) $
         -- the borrow is closed at the plan in the result
         drop ! $ owned ! T.the-row (Is T.the-row) (LL.makes T.the-type T′.the-plain 𝓤 H A) (r .plan) _ (inner r w is) $ move ! (1 ∷ 0 ∷ 3 ∷ 4 ∷ 5 ∷ []) $ closes ! tt T.the-row (r .plan) (mach (r .plan) ∷ []) b o $
         -- [obs; the borrow; the token; what it owned; the numbers'; _6 (5); …; _5 (7); …; _4 (9); …; _3 (11); …; _2 (13); …; _1 (15); …; _0 (17); …]
@@ -154,8 +153,8 @@ module _ {M : Type 1} (𝓤 : URA M) (H : Heap 𝓤) (A : Atoms 𝓤) (W : Given
         inner : (r : Updated) (w : Val) → Is U.the-row r (w ∷ []) → Is T.the-row (r .plan) (mach (r .plan) ∷ [])
         inner r w is = LL.owed U.the-type U′.the-laws r _ is .0
 
-        inner-n : (r : Updated) (w : Val) → Is U.the-row r (w ∷ []) → Is N.the-row (changed r) (mach-n (changed r) ∷ [])
-        inner-n r w is = LL.owes N.the-type N′.the-laws (changed r) (LL.owed U.the-type U′.the-laws r _ is .1 .0, (LL.owed U.the-type U′.the-laws r _ is .1 .1 .0, tt))
+        inner-n : (r : Updated) (w : Val) → Is U.the-row r (w ∷ []) → Is N.the-row (changedOf r) (mach-n (changedOf r) ∷ [])
+        inner-n r w is = LL.owes N.the-type N′.the-laws (changedOf r) (LL.owed U.the-type U′.the-laws r _ is .1 .0, (LL.owed U.the-type U′.the-laws r _ is .1 .1 .0, tt))
 
 module _ {M : Type 1} (𝓤 : URA M) (H : Heap 𝓤) (A : Atoms 𝓤) (W : Given 𝓤 H A) (at-mem : Memory → SProp 𝓤) (run : Routine → Fun 𝓤) where
   self-walks : (C : Calls 𝓤 H) (Λ : Loops 𝓤 H) → FmC 𝓤 H (W .laws) C → Triple 𝓤 (C #callee) (Upd 𝓤 H A at-mem run) → Walks 𝓤 H A self.ended stayed (WpFn 𝓤 H C Λ code.function) (self.clauses 𝓤 H A at-mem run)

@@ -12,7 +12,11 @@ fresh-requires : tie.Need-fresh-requires
 fresh-requires c κs = search needs
 
 returns : tie.Need-returns
-returns c = (λ i. record { plan = c .fresh .ensures .0 i; last = record { answer = Fits; row = c .before .no-record .ensures i } }, c .fresh .ensures .1)
+returns c =
+    record {
+      whole = λ i. record { plan = c .fresh .ensures .0 i; last = record { answer = Fits; row = c .before .no-record .ensures i } };
+      sound = c .fresh .ensures .1;
+    }
 
 pub fresh-spec : {M : Type 1} → statement M
 fresh-spec = tie.close (tie.spec no-record-requires fresh-requires returns)
