@@ -4,7 +4,7 @@ use mathlib.Core.Path.{_≡_, refl}
 use mathlib.Core.List.{map}
 use Rattle.time_table.specs.Meaning.{total}
 use Rattle.time_table.specs.Overload.{conflictIn}
-use Rattle.sweep.specs.Ordering.{insertBefore, ordered}
+use Rattle.sweep.specs.Sorting.{insertBefore, ordered}
 use Rattle.sweep.specs.Sweep.{cutsBelow, cuts, rowsFrom, rowsBy, sweep}
 use Rattle.sweep.specs.Created.{keeps, inOrder, created}
 use Rattle.planner.specs.Ranges.{inRange}
