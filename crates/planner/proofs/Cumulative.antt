@@ -20,7 +20,7 @@ use Rattle.planner.specs.Instants.{instant, tick, amount}
 use Rattle.planner.specs.Checks.{jobChecked}
 use Rattle.planner.specs.Running.{between, mustRun, runsFrom, StartOf}
 use Rattle.planner.specs.Answers.{freshPlan}
-use Rattle.planner.specs.History.{Call, Heard, nothing, accepted, outcome, tells, hear, planAfter, heardAfter}
+use Rattle.planner.specs.History.{Call, Heard, accepted, outcome, planAfter, heardWith}
 use Rattle.planner.specs.Demand.{drawnAt, Exceeds}
 use Rattle.planner.specs.Cumulative.{Starts, one, drawnFrom, Cumulative, AllFixed}
 use Rattle.planner.proofs.Ticks.{le-instant, instant-le}
@@ -135,19 +135,16 @@ module _ (h : Heard) (n : AllNumbers (h .jobs)) (ss : List ℤ) (chosen : Starts
 
 -- after every history, by the last accepted bounds and for every choice of starts
 module _ (calls : List Call) (c : Call) (taken : accepted (outcome (planAfter freshPlan calls) c .answer) ≡ true) (ss : List ℤ)
-    (chosen : Starts (hear (heardAfter freshPlan nothing calls) c (tells (planAfter freshPlan calls) c) .jobs) ss) where
-  abbrev h : Heard
-  h = hear (heardAfter freshPlan nothing calls) c (tells (planAfter freshPlan calls) c)
-
-  good : Good h (outcome (planAfter freshPlan calls) c)
+    (chosen : Starts (heardWith calls c .jobs) ss) where
+  good : Good (heardWith calls c) (outcome (planAfter freshPlan calls) c)
   good = accepted-good calls c taken
 
   -- an accepted call that answers "overloaded" leaves none that meets the constraint
-  pub overloaded-none : outcome (planAfter freshPlan calls) c .answer ≡ Overloaded → Cumulative h ss → ⊥
-  overloaded-none over = exceeding h (good .agrees .by-id .numbers) ss chosen (good .answered .overloaded .0 over)
+  pub overloaded-none : outcome (planAfter freshPlan calls) c .answer ≡ Overloaded → Cumulative (heardWith calls c) ss → ⊥
+  overloaded-none over = exceeding (heardWith calls c) (good .agrees .by-id .numbers) ss chosen (good .answered .overloaded .0 over)
 
   -- one that answers "fits", where each job has one start only, leaves that one, and it meets it
-  pub fits-fixed : outcome (planAfter freshPlan calls) c .answer ≡ Fits → AllFixed (h .jobs) → Cumulative h ss
+  pub fits-fixed : outcome (planAfter freshPlan calls) c .answer ≡ Fits → AllFixed (heardWith calls c .jobs) → Cumulative (heardWith calls c) ss
   fits-fixed fits fixed =
-      fitting h (good .agrees .by-id .numbers) ss chosen fixed
+      fitting (heardWith calls c) (good .agrees .by-id .numbers) ss chosen fixed
       (λ x. let e : Fits ≡ Overloaded = sym fits ∙ good .answered .overloaded .1 x in let clash : _≡_ {A = ℕ} 0 1 = cc in absurd (omega arith))

@@ -27,7 +27,7 @@ use Rattle.planner.specs.Instants.{tick, amount}
 use Rattle.planner.specs.Records.{recordOf, noRecord}
 use Rattle.planner.specs.Answers.{answerOf, shownRow, livePlan, sweptPlan, refusedUpdate}
 use Rattle.planner.specs.Loads.{loadChecked, acceptedLoad}
-use Rattle.planner.specs.Updates.{acceptedUpdate}
+use Rattle.planner.specs.Updates.{acceptedUpdate, updated}
 use Rattle.planner.specs.History.{Call, load, update, withoutPlaces, outcome, accepted}
 use Rattle.planner.specs.FirstRow.{FirstShown, ShowsFirst}
 use Rattle.planner.proofs.Tests.{by-test}
@@ -111,8 +111,6 @@ shown-first plan (update id earliest latest) =
 
 -- an update of a live plan, which stays live
 module _ (plan : Plan) (id earliest latest : ℤ) (live : plan .live ≡ true) where
-  abbrev o : Updated
-  o = outcome plan (update id earliest latest)
-
-  pub shown-update : o .answer ≡ Overloaded → FirstShown (o .plan .capacity) (rowsOf (o .plan .table)) (o .row)
+  pub shown-update : updated plan id earliest latest .answer ≡ Overloaded
+      → FirstShown (updated plan id earliest latest .plan .capacity) (rowsOf (updated plan id earliest latest .plan .table)) (updated plan id earliest latest .row)
   shown-update e = shown-first plan (update id earliest latest) .live e (live-stays plan id earliest latest live)

@@ -29,7 +29,7 @@ use Rattle.planner.specs.Records.{recordOf}
 use Rattle.planner.specs.Sound.{Sound}
 use Rattle.planner.specs.Questions.{askedBy, startOf, fitOf}
 use Rattle.planner.specs.Refused.{HasTask}
-use Rattle.planner.specs.SignedFit.{heightThen, FitsAt, FirstAt}
+use Rattle.planner.specs.SignedFit.{taskWith, heightThen, FitsAt, FirstAt}
 use Rattle.planner.proofs.Ticks.{instant-sum, instant-order, instant-strict, le-instant, instant-le}
 use Rattle.planner.proofs.Running.{AtTick, at-tick}
 use Rattle.planner.proofs.Known.{known-true}
@@ -105,35 +105,32 @@ nowhere f h = go (f .found) refl h
     go false e h = e
 
 module _ (plan : Plan) (id : ℤ) (sound : Sound plan) (live : plan .live ≡ true) (there : HasTask plan id) where
-  abbrev task : Task
-  task = taskAt (tasksOf (plan .tasks)) (amount id)
-
   abbrev found : Fit
-  found = firstFit (askedBy task) (plan .capacity) (rowsOf (plan .table))
+  found = firstFit (askedBy (taskWith plan id)) (plan .capacity) (rowsOf (plan .table))
 
   asked : fitOf plan id ≡ startOf found
   asked = fit-asked plan id (has-task plan id .1 there) live
 
-  is-first : IsFirstFit (rowsOf (plan .table)) (plan .capacity) (askedBy task) found
+  is-first : IsFirstFit (rowsOf (plan .table)) (plan .capacity) (askedBy (taskWith plan id)) found
   is-first =
       let known = known-true (plan .tasks .count) id (has-task plan id .1 there) in
-      first-fit-is (askedBy task) (plan .capacity) ticks 0 (rowsOf (plan .table)) (sound .live live .right .ordered) (sound .tasks .limited (amount id) (known .1) .long)
+      first-fit-is (askedBy (taskWith plan id)) (plan .capacity) ticks 0 (rowsOf (plan .table)) (sound .live live .right .ordered) (sound .tasks .limited (amount id) (known .1) .long)
 
-  found-is : (f : Fit) → IsFirstFit (rowsOf (plan .table)) (plan .capacity) (askedBy task) f → fitOf plan id ≡ startOf f
-  found-is f w = asked ∙ ap startOf (first-fit-unique (rowsOf (plan .table)) (plan .capacity) (askedBy task) found f is-first w)
+  found-is : (f : Fit) → IsFirstFit (rowsOf (plan .table)) (plan .capacity) (askedBy (taskWith plan id)) f → fitOf plan id ≡ startOf f
+  found-is f w = asked ∙ ap startOf (first-fit-unique (rowsOf (plan .table)) (plan .capacity) (askedBy (taskWith plan id)) found f is-first w)
 
-  pub start-exactly : (z : ℤ) → (fitOf plan id ≡ Start z) ↔ FirstAt plan task z
+  pub start-exactly : (z : ℤ) → (fitOf plan id ≡ Start z) ↔ FirstAt plan (taskWith plan id) z
   start-exactly z = (
     λ h.
         let e = started found z (sym asked ∙ h) in
-        subst (FirstAt plan task) (e .1) (first-instant plan task (found .start) (is-first .some (e .0))),
+        subst (FirstAt plan (taskWith plan id)) (e .1) (first-instant plan (taskWith plan id) (found .start) (is-first .some (e .0))),
     λ w.
-        let a = fit-tick plan task z (w .fit) in
-        found-is (record { found = true; start = a .at }) (record { some = λ e. first-tick plan task z w; none = λ e. absurd (true≢false e) }) ∙ ap Start (sym (a .is)),
+        let a = fit-tick plan (taskWith plan id) z (w .fit) in
+        found-is (record { found = true; start = a .at }) (record { some = λ e. first-tick plan (taskWith plan id) z w; none = λ e. absurd (true≢false e) }) ∙ ap Start (sym (a .is)),
   )
 
-  pub nowhere-exactly : (fitOf plan id ≡ Nowhere) ↔ ((z : ℤ) → ¬ FitsAt plan task z)
+  pub nowhere-exactly : (fitOf plan id ≡ Nowhere) ↔ ((z : ℤ) → ¬ FitsAt plan (taskWith plan id) z)
   nowhere-exactly = (
-    λ h z w. is-first .none (nowhere found (sym asked ∙ h)) .0 (fit-tick plan task z w .at) (tick-fits plan task z w),
-    λ none. found-is noneFound (record { some = λ e. absurd (false≢true e); none = λ e. (λ s w. none (instant s) (to-instants plan task s w), refl) }),
+    λ h z w. is-first .none (nowhere found (sym asked ∙ h)) .0 (fit-tick plan (taskWith plan id) z w .at) (tick-fits plan (taskWith plan id) z w),
+    λ none. found-is noneFound (record { some = λ e. absurd (false≢true e); none = λ e. (λ s w. none (instant s) (to-instants plan (taskWith plan id) s w), refl) }),
   )

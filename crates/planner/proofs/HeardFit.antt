@@ -119,14 +119,11 @@ module _ (h : Heard) (plan : Plan) (a : Agrees h plan) (live : plan .live ≡ tr
 
 -- after every history, where the rows are not refused, of the job at the place p of the input, which was told the id i
 module _ (calls : List Call) (taken : rowsShown (planAfter freshPlan calls) .answer ≡ Accepted) (p i : ℕ) (told : Told (heardAfter freshPlan nothing calls) p i) where
-  abbrev h : Heard
-  h = heardAfter freshPlan nothing calls
-
   live : planAfter freshPlan calls .live ≡ true
   live = rows-live (planAfter freshPlan calls) taken
 
-  pub heard-start : (z : ℤ) → (fitOf (planAfter freshPlan calls) (pos i) ≡ Start z) ↔ HeardFirst h (jobAt h p) z
-  heard-start z = agreeing-start h (planAfter freshPlan calls) (history-agrees calls) live p i told z
+  pub heard-start : (z : ℤ) → (fitOf (planAfter freshPlan calls) (pos i) ≡ Start z) ↔ HeardFirst (heardAfter freshPlan nothing calls) (jobAt (heardAfter freshPlan nothing calls) p) z
+  heard-start z = agreeing-start (heardAfter freshPlan nothing calls) (planAfter freshPlan calls) (history-agrees calls) live p i told z
 
-  pub heard-nowhere : (fitOf (planAfter freshPlan calls) (pos i) ≡ Nowhere) ↔ ((z : ℤ) → ¬ HeardFits h (jobAt h p) z)
-  heard-nowhere = agreeing-nowhere h (planAfter freshPlan calls) (history-agrees calls) live p i told
+  pub heard-nowhere : (fitOf (planAfter freshPlan calls) (pos i) ≡ Nowhere) ↔ ((z : ℤ) → ¬ HeardFits (heardAfter freshPlan nothing calls) (jobAt (heardAfter freshPlan nothing calls) p) z)
+  heard-nowhere = agreeing-nowhere (heardAfter freshPlan nothing calls) (planAfter freshPlan calls) (history-agrees calls) live p i told

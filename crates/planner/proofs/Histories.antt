@@ -34,7 +34,7 @@ use Rattle.planner.specs.Updates.{known, bounded, acceptedUpdate}
 use Rattle.planner.specs.Loads.{taskOf, jobsOf, loadChecked, acceptedLoad}
 use Rattle.planner.specs.Sound.{SoundTasks}
 use Rattle.planner.specs.Answers.{freshPlan, refusedUpdate}
-use Rattle.planner.specs.History.{Call, load, update, withoutPlaces, outcome, tells, Heard, nothing, rebounded, accepted, hear, lastHeard, planAfter, heardAfter}
+use Rattle.planner.specs.History.{Call, load, update, withoutPlaces, outcome, tells, Heard, nothing, rebounded, accepted, hear, lastHeard, planAfter, heardAfter, heardWith}
 use Rattle.planner.specs.Questions.{rowsShown, shownRows}
 use Rattle.planner.specs.Demand.{Identified, Answered, DemandedAfter}
 use Rattle.planner.proofs.Tests.{by-test}
@@ -184,7 +184,7 @@ history-agrees calls = calls-agree nothing freshPlan fresh-agrees calls
 
 -- after every history an accepted call is good: the plan agrees with what is heard then, and the answer is right for it
 pub accepted-good : (calls : List Call) (c : Call) → accepted (outcome (planAfter freshPlan calls) c .answer) ≡ true
-    → Good (hear (heardAfter freshPlan nothing calls) c (tells (planAfter freshPlan calls) c)) (outcome (planAfter freshPlan calls) c)
+    → Good (heardWith calls c) (outcome (planAfter freshPlan calls) c)
 accepted-good calls c taken =
     ⊎-elim
     (λ refused. absurd (true≢false (sym taken ∙ refused .0)))
@@ -193,7 +193,7 @@ accepted-good calls c taken =
 
 -- demand 3: after every history, an accepted call is answered as demanded, by the last accepted bounds
 pub demand-three : (calls : List Call) (c : Call) → accepted (outcome (planAfter freshPlan calls) c .answer) ≡ true
-    → Answered (hear (heardAfter freshPlan nothing calls) c (tells (planAfter freshPlan calls) c)) (outcome (planAfter freshPlan calls) c)
+    → Answered (heardWith calls c) (outcome (planAfter freshPlan calls) c)
 demand-three calls c taken = accepted-good calls c taken .answered
 
 -- and the rows that a question gets stay as demanded, whatever is refused in between

@@ -17,10 +17,12 @@ use Rattle.planner.specs.declared.Job.{Job}
 use Rattle.planner.specs.Ranges.{bounds}
 use Rattle.planner.specs.Instants.{instant}
 use Rattle.planner.specs.Loads.{taskOf}
+use Rattle.planner.specs.declared.Checked.the-variants.{Accepted}
+use Rattle.planner.specs.Checks.{jobChecked}
 use Rattle.planner.specs.Running.{mustRun}
 use Rattle.planner.specs.Given.{noJob}
 use Rattle.planner.specs.Demand.{drawnAt}
-use Rattle.planner.proofs.Accepted.{Numbers}
+use Rattle.planner.proofs.Accepted.{Numbers, job-accepted}
 use Rattle.planner.proofs.Running.{run-at, run-low}
 
 -- every job's numbers are in range
@@ -59,6 +61,10 @@ running-past (j ∷ js) (suc i) t le = running-past js i t (le-of-suc-le-suc le)
 
 running-tick : (j : Job) → Numbers j → (s : ℕ) → mustRun j (instant s) ≡ inPart (taskOf j) s
 running-tick j n s = run-at (n .starts) (n .duration) s
+
+-- a job that a load accepts must be running exactly in its part in ticks
+pub part-signed : (j : Job) → jobChecked j ≡ Accepted → (s : ℕ) → mustRun j (instant s) ≡ inPart (taskOf j) s
+part-signed j ok s = running-tick j (job-accepted ok) s
 
 pub runs-signed : (js : List Job) → AllNumbers js → (i s : ℕ) → runningAt js i (instant s) ≡ runs (map taskOf js) i s
 unfolding AllNumbers runningAt

@@ -17,6 +17,7 @@ use Rattle.planner.specs.declared.Updated.{Updated}
 use Rattle.planner.specs.declared.Loaded.{Loaded}
 use Rattle.planner.specs.Instants.{amount}
 use Rattle.planner.specs.Given.{noJob}
+use Rattle.planner.specs.Answers.{freshPlan}
 use Rattle.planner.specs.Loads.{jobsOf, loaded}
 use Rattle.planner.specs.Updates.{updated}
 
@@ -91,3 +92,7 @@ lastHeard plan h c = cond (accepted (outcome plan c .answer)) (hear h c (tells p
 abbrev pub heardAfter : Plan → Heard → List Call → Heard
 heardAfter plan h [] = h
 heardAfter plan h (c ∷ cs) = heardAfter (outcome plan c .plan) (lastHeard plan h c) cs
+
+-- what is known after some calls of a fresh plan and one more that is accepted
+abbrev pub heardWith : List Call → Call → Heard
+heardWith calls c = hear (heardAfter freshPlan nothing calls) c (tells (planAfter freshPlan calls) c)

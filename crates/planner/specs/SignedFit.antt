@@ -8,16 +8,20 @@ use lib.IntN.{ℤ, pos, _+ℤ_}
 use lib.Signed.{leZ, ltZ}
 use Rattle.time_table.specs.Rows.{rowsOf}
 use Rattle.sweep.specs.declared.Task.{Task}
-use Rattle.sweep.specs.Tasks.{lasts}
+use Rattle.sweep.specs.Tasks.{tasksOf, taskAt, lasts}
 use Rattle.planner.specs.declared.Plan.{Plan}
 use Rattle.planner.specs.declared.RowRecord.{RowRecord}
-use Rattle.planner.specs.Instants.{instant}
+use Rattle.planner.specs.Instants.{instant, amount}
 use Rattle.planner.specs.Records.{recordOf}
 
 -- the height at a signed instant of rows as a caller gets them: 0 where no row is
 unfoldable pub heightThen : List RowRecord → ℤ → ℕ
 heightThen [] t = 0
 heightThen (r ∷ rs) t = cond (leZ (r .start) t && leZ t (r .end)) (r .height) 0 + heightThen rs t
+
+-- the task with this id
+abbrev pub taskWith : Plan → ℤ → Task
+taskWith plan id = taskAt (tasksOf (plan .tasks)) (amount id)
 
 -- z is a start within the task's bounds at which the run fits
 pub record FitsAt (plan : Plan) (k : Task) (z : ℤ) : Type 0 where
