@@ -41,7 +41,7 @@ put-row-requires c κs =
     let t = c .before .before in
     let l = t .before in
     let s = l .before .before in (
-      s .pre .0 .ids noRow (l .loop .i) (t .loop-test .taken),
+      s .pre .0 .ids noRow (l .loop .i) (omega (arith, t .loop-test .taken)),
       omega (arith, t .loop-test .taken, s .pre .0 .held .fits, s .pre .1, l .loop .inv .1, written-length (l .loop .inv .2)),
     )
 
