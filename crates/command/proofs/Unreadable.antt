@@ -23,8 +23,8 @@ use Rattle.command.specs.Decimal.{digitsIn, decimal}
 use Rattle.command.specs.Grammar.{commandOf}
 use Rattle.command.specs.Text.{countText, refusalText, overloadText, answerText, startText, fitText, rowText, rowsText, tableBy, tableText}
 use Rattle.command.specs.Sessions.{Outcome, outcome, answered}
-use Rattle.command.proofs.Digits.{decimal-one}
-use Rattle.command.proofs.Lengths.{count-length}
+use Rattle.command.proofs.DecimalDigits.{decimal-one}
+use Rattle.command.proofs.TextLengths.{count-length}
 
 -- `R 11` and a line feed
 abbrev r-11 : List ℕ

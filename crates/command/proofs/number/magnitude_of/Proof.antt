@@ -6,11 +6,12 @@ use Prim.Native.Nat.{_-_, _^_, _≤_, _<_}
 use lib.ListN.{length, drop}
 use denote.Ref.{now}
 use Rattle.command.specs.Numbers.{magnitudeFrom}
-use Rattle.command.proofs.Reading.{digit-below, digit-above, digit-more, digit-end, power-more, power-small}
+use Rattle.command.proofs.number.magnitude_of.Proof.Digits.{digit-below, digit-above, digit-more, digit-end, power-more, power-small}
 use borrow.Author.Needs.{needs}
 use native.Mathlib.Omega.{arith}
 use Rattle.command.proofs.number.magnitude_of.Statement.{statement}
 use Rattle.command.proofs.number.magnitude_of.Tie as tie
+mod Digits
 
 abbrev Inv-loop : tie.InvT-loop
 Inv-loop digits value₀ i₀ value i = (i ≤ length digits) × (value < 10 ^ i) × (magnitudeFrom 0 digits ≡ magnitudeFrom value (drop i digits))

@@ -15,7 +15,7 @@ use mir.Val.{toZ, ofZ}
 use mir.Facts.{toZ-ofZ}
 use Rattle.time_table.proofs.Held.{held-length}
 use Rattle.command.specs.Grammar.{nth, numbersTaken}
-use Rattle.command.proofs.Letters.{letter-miscounted, letter-job, letter-load, letter-update, letter-fit, letter-rows, letter-none}
+use Rattle.command.proofs.LetterNumbers.{letter-miscounted, letter-job, letter-load, letter-update, letter-fit, letter-rows, letter-none}
 use Rattle.command.proofs.parse.command_with.Statement.{statement}
 use Rattle.command.proofs.parse.command_with.Tie as tie
 

@@ -8,7 +8,7 @@ use Rattle.time_table.proofs.Held.{held-length}
 use Rattle.planner.specs.Records.{noRow}
 use Rattle.command.specs.Text.{rowText, rowsText}
 use Rattle.command.specs.Written.{Written}
-use Rattle.command.proofs.Writing.{written-none, written-length, written-more}
+use Rattle.command.proofs.WrittenText.{written-none, written-length, written-more}
 use Rattle.time_table.proofs.Mapped.{flat-take}
 use borrow.Author.Needs.{needs}
 use native.Mathlib.Omega.{arith}

@@ -1,9 +1,9 @@
 -- `put_table` meets its contract: the rows, and then their count; or the refusal.
 -- Assumes nothing.
 use Rattle.command.specs.Text.{tableText}
-use Rattle.command.proofs.Writing.{written-length, written-more}
-use Rattle.command.proofs.Digits.{decimal-short}
-use Rattle.command.proofs.Lengths.{count-length}
+use Rattle.command.proofs.WrittenText.{written-length, written-more}
+use Rattle.command.proofs.DecimalDigits.{decimal-short}
+use Rattle.command.proofs.TextLengths.{count-length}
 use borrow.Author.Needs.{needs}
 use native.Mathlib.Omega.{arith}
 use Rattle.command.proofs.text.put_table.Statement.{statement}
