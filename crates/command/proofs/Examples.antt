@@ -1,20 +1,26 @@
 -- Lines and texts of document 01, by computation.
 -- Assumes nothing.
 use mathlib.Core.Path.{_≡_, refl}
-use mathlib.Core.List.{[], _∷_, flatMap}
+use mathlib.Core.List.{[], _∷_, map, flatMap}
 use lib.IntN.{pos, negsuc}
 use Rattle.time_table.specs.Held.{pad}
+use Rattle.planner.specs.declared.FirstFit.{FirstFit}
+use Rattle.planner.specs.declared.Refusal.{Refusal}
 use Rattle.command.specs.declared.number.Number.{Number}
-use Rattle.command.specs.declared.Command.the-variants.{Keep, Update, Fit, Rows, Unreadable}
+use Rattle.command.specs.declared.Command.the-variants.{Keep, Load, Update, Fit, Rows, Unreadable}
 use Rattle.command.specs.Decimal.{digitsIn, decimal, signedText}
 use Rattle.command.specs.Numbers.{isDigit, magnitudeFrom, signedOf, numberOf}
 use Rattle.command.specs.Grammar.{fieldsOf, valuesOf, numbersTaken, commandWith, byLetter, commandOf}
-use Rattle.command.specs.Text.{rowText, countText, overloadText}
+use Rattle.command.specs.Text.{refusalText, startText, fitText, rowText, countText, overloadText}
 
--- `J 0 0 4 2`, `U 2 -9 11`, `P -0`, `T`
+-- `J 0 0 4 2`, `L 5`, `U 2 -9 11`, `P -0`, `T`
 job : commandOf (74 ∷ 32 ∷ 48 ∷ 32 ∷ 48 ∷ 32 ∷ 52 ∷ 32 ∷ 50 ∷ []) ≡ Keep (record { earliest = pos 0; latest = pos 0; duration = pos 4; usage = pos 2 })
 unfolding commandOf fieldsOf valuesOf byLetter commandWith numbersTaken numberOf signedOf magnitudeFrom isDigit
 job = refl
+
+load : commandOf (76 ∷ 32 ∷ 53 ∷ []) ≡ Load (pos 5)
+unfolding commandOf fieldsOf valuesOf byLetter commandWith numbersTaken numberOf signedOf magnitudeFrom isDigit
+load = refl
 
 update : commandOf (85 ∷ 32 ∷ 50 ∷ 32 ∷ 45 ∷ 57 ∷ 32 ∷ 49 ∷ 49 ∷ []) ≡ Update (pos 2) (negsuc 8) (pos 11)
 unfolding commandOf fieldsOf valuesOf byLetter commandWith numbersTaken numberOf signedOf magnitudeFrom isDigit
@@ -49,7 +55,29 @@ too-many : commandOf (76 ∷ 32 ∷ 53 ∷ 32 ∷ 53 ∷ []) ≡ Unreadable
 unfolding commandOf fieldsOf valuesOf byLetter commandWith numbersTaken numberOf signedOf magnitudeFrom isDigit
 too-many = refl
 
--- the ends of the range: -2147483648 and 2147483647 are numbers, and 2147483648 is none
+-- a number too few, a small letter, a letter without its space
+too-few : commandOf (85 ∷ 32 ∷ 53 ∷ 32 ∷ 53 ∷ []) ≡ Unreadable
+unfolding commandOf fieldsOf valuesOf byLetter commandWith numbersTaken numberOf signedOf magnitudeFrom isDigit
+too-few = refl
+
+small-letter : commandOf (116 ∷ []) ≡ Unreadable
+unfolding commandOf fieldsOf valuesOf byLetter commandWith numbersTaken
+small-letter = refl
+
+no-space : commandOf (76 ∷ 53 ∷ []) ≡ Unreadable
+unfolding commandOf fieldsOf
+no-space = refl
+
+-- a minus alone is no number, and neither are the eleven digits 00000000005
+minus-alone : numberOf (45 ∷ []) ≡ Number.Bad
+unfolding numberOf signedOf
+minus-alone = refl
+
+eleven-digits : numberOf (48 ∷ 48 ∷ 48 ∷ 48 ∷ 48 ∷ 48 ∷ 48 ∷ 48 ∷ 48 ∷ 48 ∷ 53 ∷ []) ≡ Number.Bad
+unfolding numberOf signedOf magnitudeFrom isDigit
+eleven-digits = refl
+
+-- the ends of the range: -2147483648 and 2147483647 are numbers, and 2147483648 and -2147483649 are none
 least : numberOf (45 ∷ 50 ∷ 49 ∷ 52 ∷ 55 ∷ 52 ∷ 56 ∷ 51 ∷ 54 ∷ 52 ∷ 56 ∷ []) ≡ Number.Is (negsuc 2147483647)
 unfolding numberOf signedOf magnitudeFrom isDigit
 least = refl
@@ -62,19 +90,39 @@ past : numberOf (50 ∷ 49 ∷ 52 ∷ 55 ∷ 52 ∷ 56 ∷ 51 ∷ 54 ∷ 52 ∷ 
 unfolding numberOf signedOf magnitudeFrom isDigit
 past = refl
 
--- `3 3 5 1 0`, `O 3 3 6`, `E 128`, and a start of -10
+past-least : numberOf (45 ∷ 50 ∷ 49 ∷ 52 ∷ 55 ∷ 52 ∷ 56 ∷ 51 ∷ 54 ∷ 52 ∷ 57 ∷ []) ≡ Number.Bad
+unfolding numberOf signedOf magnitudeFrom isDigit
+past-least = refl
+
+-- `3 3 5 1 0`, `O -5 20 7`, `E 12`, `E 128`, `S -10`, `N`, and `R` with each number that the program gives
 row : rowText (record { start = pos 3; end = pos 3; height = 5; ids = pad 32 0 (1 ∷ 0 ∷ []); count = 2 }) ≡ 51 ∷ 32 ∷ 51 ∷ 32 ∷ 53 ∷ 32 ∷ 49 ∷ 32 ∷ 48 ∷ 10 ∷ []
 unfolding rowText flatMap decimal digitsIn signedText
 row = refl
 
-overload : overloadText (record { start = pos 3; end = pos 3; height = 6; ids = pad 32 0 []; count = 0 }) ≡ 79 ∷ 32 ∷ 51 ∷ 32 ∷ 51 ∷ 32 ∷ 54 ∷ 10 ∷ []
+overload : overloadText (record { start = negsuc 4; end = pos 20; height = 7; ids = pad 32 0 []; count = 0 }) ≡ 79 ∷ 32 ∷ 45 ∷ 53 ∷ 32 ∷ 50 ∷ 48 ∷ 32 ∷ 55 ∷ 10 ∷ []
 unfolding overloadText decimal digitsIn signedText
 overload = refl
 
-count : countText 69 128 ≡ 69 ∷ 32 ∷ 49 ∷ 50 ∷ 56 ∷ 10 ∷ []
+twelve : countText 69 12 ≡ 69 ∷ 32 ∷ 49 ∷ 50 ∷ 10 ∷ []
 unfolding countText decimal digitsIn
-count = refl
+twelve = refl
 
-negative : signedText (negsuc 9) ≡ 45 ∷ 49 ∷ 48 ∷ []
-unfolding signedText decimal digitsIn
-negative = refl
+most : countText 69 128 ≡ 69 ∷ 32 ∷ 49 ∷ 50 ∷ 56 ∷ 10 ∷ []
+unfolding countText decimal digitsIn
+most = refl
+
+start : fitText (FirstFit.Start (negsuc 9)) ≡ 83 ∷ 32 ∷ 45 ∷ 49 ∷ 48 ∷ 10 ∷ []
+unfolding fitText startText signedText decimal digitsIn
+start = refl
+
+nowhere : fitText FirstFit.Nowhere ≡ 78 ∷ 10 ∷ []
+unfolding fitText
+nowhere = refl
+
+refusals : map refusalText (
+    Refusal.TooManyJobs ∷ Refusal.CapacityOutOfRange ∷ Refusal.BoundOutOfRange ∷ Refusal.BoundsCrossed ∷ Refusal.DurationOutOfRange
+    ∷ Refusal.UsageOutOfRange ∷ Refusal.UnknownTask ∷ Refusal.TooManyRows ∷ Refusal.Stale ∷ Refusal.Unreadable ∷ [])
+    ≡ (82 ∷ 32 ∷ 49 ∷ 10 ∷ []) ∷ (82 ∷ 32 ∷ 50 ∷ 10 ∷ []) ∷ (82 ∷ 32 ∷ 51 ∷ 10 ∷ []) ∷ (82 ∷ 32 ∷ 52 ∷ 10 ∷ []) ∷ (82 ∷ 32 ∷ 53 ∷ 10 ∷ [])
+    ∷ (82 ∷ 32 ∷ 54 ∷ 10 ∷ []) ∷ (82 ∷ 32 ∷ 55 ∷ 10 ∷ []) ∷ (82 ∷ 32 ∷ 56 ∷ 10 ∷ []) ∷ (82 ∷ 32 ∷ 57 ∷ 10 ∷ []) ∷ (82 ∷ 32 ∷ 49 ∷ 49 ∷ 10 ∷ []) ∷ []
+unfolding refusalText countText decimal digitsIn
+refusals = refl

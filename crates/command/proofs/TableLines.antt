@@ -165,15 +165,6 @@ module _ (rows : List RowRecord) (n : ℕ) (counted : n ≡ length rows) where
         ended = ap (λ (l : List ℕ). getD l (length l - 1) 0) (sym (append-assoc (rowsText rows) (endLine n) (10 ∷ []))) ∙ last-byte (rowsText rows ++ endLine n) 10;
       }
 
--- a table that is accepted, and one that is refused
-table-accepted : (r : Rows) → r .answer ≡ Checked.Accepted → tableText r ≡ rowsText (shownRows r) ++ countText 69 (r .count)
-unfolding tableText
-table-accepted r e = ap (λ (a : Checked). tableBy a r) e
-
-table-refused : (r : Rows) → r .answer ≡ Checked.Refused Stale → tableText r ≡ 82 ∷ 32 ∷ 57 ∷ 10 ∷ []
-unfolding tableText refusalText countText decimal digitsIn
-table-refused r e = ap (λ (a : Checked). tableBy a r) e
-
 module _ (calls : List Call) where
   abbrev plan : Plan
   plan = planAfter freshPlan calls
@@ -184,14 +175,23 @@ module _ (calls : List Call) where
   counts : shown .count ≡ length (shownRows shown)
   counts = shown-rows plan (history-agrees calls .sound) .held .counts
 
+  -- a table that is accepted, and one that is refused
+  accepted : shown .answer ≡ Checked.Accepted → ListsRows (shownRows shown) (tableText shown)
+  unfolding tableText
+  accepted taken = subst (ListsRows (shownRows shown)) (sym (ap (λ (a : Checked). tableBy a shown) taken)) (lists-rows (shownRows shown) _ (omega (arith, counts)))
+
+  refused : shown .answer ≡ Checked.Refused Stale → tableText shown ≡ 82 ∷ 32 ∷ 57 ∷ 10 ∷ []
+  unfolding tableText refusalText countText decimal digitsIn
+  refused e = ap (λ (a : Checked). tableBy a shown) e
+
   calls-printed : PrintedByT calls (tableText shown)
   calls-printed = go (plan .live) refl
     where
       go : (live : Bool) → plan .live ≡ live → PrintedByT calls (tableText shown)
       go true live =
           let taken = rows-accepted-when plan .1 live in
-          listed live (shownRows shown) (rows-demanded calls taken) (rw (table-accepted shown taken) (lists-rows (shownRows shown) (shown .count) counts))
-      go false stale = refused-9 stale (table-refused shown (rows-refused-9 plan .1 stale))
+          listed live (shownRows shown) (rows-demanded calls taken) (accepted taken)
+      go false stale = refused-9 stale (refused (rows-refused-9 plan .1 stale))
 
 -- the line `T` asks for the rows
 asks : (s : Session) → answered s (84 ∷ []) .text ≡ tableText (rowsShown (s .plan))

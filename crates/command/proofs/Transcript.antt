@@ -17,9 +17,9 @@ use Rattle.command.specs.declared.lines.State.{State}
 use Rattle.command.specs.declared.lines.Filled.{Filled}
 use Rattle.command.specs.Sessions.{outcome, answered}
 use Rattle.command.specs.Lines.{linesAfter, lastLine, printed, transcript, bytesOf, readerOf, HeldLine, grown, filling, freshState, lineTaken, bytesTaken, taken, served, finished, joined, Prints, line, next, end}
-use Rattle.command.proofs.Fields.{line-long}
-use Rattle.command.proofs.Filling.{grown-more, grown-full}
-use Rattle.command.proofs.Serving.{taken-next, nothing-left, line-left, served-further}
+use Rattle.command.proofs.LineFields.{line-long}
+use Rattle.command.proofs.LineBytes.{grown-more, grown-full}
+use Rattle.command.proofs.ServedLines.{taken-next, nothing-left, line-left, served-further}
 
 -- two lines that are too long are answered alike
 alike : (s : Session) (l m : List ℕ) → 80 < length l → 80 < length m → answered s l ≡ answered s m

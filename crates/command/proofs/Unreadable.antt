@@ -15,7 +15,7 @@ use Rattle.planner.specs.declared.Refusal.{Refusal}
 use Rattle.planner.specs.declared.RowRecord.{RowRecord}
 use Rattle.planner.specs.declared.Rows.{Rows}
 use Rattle.planner.specs.Refusals.{numberOf}
-use Rattle.planner.specs.Questions.{rowsShown, shownRows}
+use Rattle.planner.specs.Questions.{rowsShown}
 use Rattle.planner.proofs.Numbers.{load-numbers, update-numbers, fit-numbers, rows-numbers}
 use Rattle.command.specs.declared.Session.{Session}
 use Rattle.command.specs.declared.Command.{Command}
@@ -23,8 +23,8 @@ use Rattle.command.specs.Decimal.{digitsIn, decimal}
 use Rattle.command.specs.Grammar.{commandOf}
 use Rattle.command.specs.Text.{countText, refusalText, overloadText, answerText, startText, fitText, rowText, rowsText, tableBy, tableText}
 use Rattle.command.specs.Sessions.{Outcome, outcome, answered}
-use Rattle.command.proofs.Digits.{decimal-one}
-use Rattle.command.proofs.Lengths.{count-length}
+use Rattle.command.proofs.DecimalDigits.{decimal-one}
+use Rattle.command.proofs.TextLengths.{count-length}
 
 -- `R 11` and a line feed
 abbrev r-11 : List ℕ
@@ -61,7 +61,7 @@ rows-other [] n e = first-other _ (λ h. omega arith) e
 rows-other (r ∷ rows) n e = omega (arith, simp length-append at (ap length e))
 
 table-other : (a : Checked) (rows : Rows) → ((why : Refusal) → a ≡ Checked.Refused why → numberOf why < 10) → ¬ (tableBy a rows ≡ r-11)
-table-other Checked.Accepted rows small = rows-other (shownRows rows) (rows .count)
+table-other Checked.Accepted rows small = rows-other _ _
 table-other (Checked.Refused why) rows small = refusal-other why (small why refl)
 
 -- one of two outcomes, and one of two numbers
@@ -85,6 +85,6 @@ module _ (s : Session) where
   only-unreadable Command.Rows e = absurd (table-other _ (rowsShown (s .plan)) (λ why h. omega (arith, rows-numbers (s .plan) why h)) e)
   only-unreadable Command.Unreadable e = refl
 
-  pub line-refused-11 : (line : List ℕ) → (answered s line .text ≡ refusalText Refusal.Unreadable) ↔ (commandOf line ≡ Command.Unreadable)
+  pub line-refused-11 : (line : List ℕ) → (answered s line .text ≡ 82 ∷ 32 ∷ 49 ∷ 49 ∷ 10 ∷ []) ↔ (commandOf line ≡ Command.Unreadable)
   unfolding outcome
-  line-refused-11 line = (λ e. only-unreadable (commandOf line) (e ∙ r-11-is), λ h. rw h)
+  line-refused-11 line = (λ e. only-unreadable (commandOf line) e, λ h. rw h r-11-is)

@@ -201,6 +201,14 @@ pub(crate) fn put_rows(out: &mut [u8], from: usize, rows: Rows) -> usize
     at
 }
 
+// The count of rows, as it is printed.
+pub(crate) fn row_count(count: usize) -> u32
+    requires { ⌜ count ≤ 128 ⌝ }
+    ensures { λ r. ⌜ r ≡ count ⌝ }
+{
+    count as u32
+}
+
 // The rows, then `E` and their count; or a refusal.
 pub(crate) fn put_table(out: &mut [u8], at: usize, rows: Rows) -> usize
     requires { ⌜ Shown rows ⌝ }
@@ -211,7 +219,7 @@ pub(crate) fn put_table(out: &mut [u8], at: usize, rows: Rows) -> usize
     match answer {
         Checked::Accepted => {
             let next = put_rows(out, at, rows);
-            put_count(out, next, b'E', rows.count as u32)
+            put_count(out, next, b'E', row_count(rows.count))
         }
         Checked::Refused(why) => put_refusal(out, at, why),
     }

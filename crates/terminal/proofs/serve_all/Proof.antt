@@ -6,7 +6,7 @@ use lib.ListN.{length}
 use lib.Seq.{length-take-le}
 use denote.Ref.{now}
 use Rattle.command.specs.Lines.{ReadyState}
-use Rattle.command.proofs.Serving.{served-further}
+use Rattle.command.proofs.ServedLines.{served-further}
 use borrow.Author.Needs.{needs}
 use native.Mathlib.Omega.{arith}
 use Rattle.terminal.proofs.serve_all.Statement.{statement}

@@ -4,7 +4,7 @@ use mathlib.Core.Path.{subst}
 use denote.Ref.{now}
 use Rattle.command.specs.declared.Command.{Command}
 use Rattle.command.specs.Sessions.{outcome, Answers}
-use Rattle.command.proofs.Outcomes.{answers-of}
+use Rattle.command.proofs.CommandOutcomes.{answers-of}
 use borrow.Author.Needs.{needs}
 use Rattle.command.proofs.Session.answer.Statement.{statement}
 use Rattle.command.proofs.Session.answer.Tie as tie

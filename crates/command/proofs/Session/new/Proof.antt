@@ -1,6 +1,6 @@
 -- `Session::new` meets its contract: a fresh plan, and no jobs.
 -- Assumes nothing.
-use Rattle.command.proofs.Outcomes.{no-jobs-held}
+use Rattle.command.proofs.CommandOutcomes.{no-jobs-held}
 use borrow.Author.Needs.{needs}
 use Rattle.command.proofs.Session.new.Statement.{statement}
 use Rattle.command.proofs.Session.new.Tie as tie

@@ -9,7 +9,7 @@ use denote.Ref.{now}
 use Rattle.time_table.specs.Held.{Held}
 use Rattle.time_table.proofs.Held.{held-push, held-list}
 use Rattle.command.specs.Lines.{grown, filling}
-use Rattle.command.proofs.Filling.{filling-end, filling-feed, filling-more, grown-more, grown-full, reader-is}
+use Rattle.command.proofs.LineBytes.{filling-end, filling-feed, filling-more, grown-more, grown-full, reader-is}
 use native.Mathlib.Omega.{arith}
 use Rattle.command.proofs.lines.fill.Statement.{statement}
 use Rattle.command.proofs.lines.fill.Tie as tie

@@ -1,15 +1,17 @@
--- `magnitude_of` meets its contract: what the digits passed say, and those to come, is what all say. At most ten digits stay below 10 to the tenth.
+-- `magnitude_of` meets its contract: what the digits passed say, and those to come, is what all say. So few digits stay below 10 to
+-- the 19th, which 64 bits hold.
 -- Assumes nothing.
 use mathlib.Core.Path.{_≡_, refl, sym, _∙_}
 use Prim.Native.Nat.{_-_, _^_, _≤_, _<_}
 use lib.ListN.{length, drop}
 use denote.Ref.{now}
 use Rattle.command.specs.Numbers.{magnitudeFrom}
-use Rattle.command.proofs.Reading.{digit-below, digit-above, digit-more, digit-end, power-more, power-small}
+use Rattle.command.proofs.number.magnitude_of.Proof.Digits.{digit-below, digit-above, digit-more, digit-end, power-more, power-small}
 use borrow.Author.Needs.{needs}
 use native.Mathlib.Omega.{arith}
 use Rattle.command.proofs.number.magnitude_of.Statement.{statement}
 use Rattle.command.proofs.number.magnitude_of.Tie as tie
+mod Digits
 
 abbrev Inv-loop : tie.InvT-loop
 Inv-loop digits value₀ i₀ value i = (i ≤ length digits) × (value < 10 ^ i) × (magnitudeFrom 0 digits ≡ magnitudeFrom value (drop i digits))
@@ -36,7 +38,7 @@ returns-2 c =
 mul-value : tie.Need-mul-value Inv-loop μ-loop
 mul-value c =
     let l = c .before .before .before .before in
-    omega (arith, power-small (l .loop .i) 9 (omega (arith, l .before .before .pre, c .before .before .before .loop-test .taken)), l .loop .inv .1)
+    omega (arith, power-small (l .loop .i) 18 (omega (arith, l .before .before .pre, c .before .before .before .loop-test .taken)), l .loop .inv .1)
 
 wide-requires : tie.Need-wide-requires Inv-loop μ-loop
 wide-requires c κs = search needs
@@ -44,7 +46,7 @@ wide-requires c κs = search needs
 add-value : tie.Need-add-value Inv-loop μ-loop
 add-value c =
     let l = c .before .before .before .before .before in
-    omega (arith, power-small (l .loop .i) 9 (omega (arith, l .before .before .pre, c .before .before .before .before .loop-test .taken)), l .loop .inv .1, c .wide .ensures, c .before .if2 .left)
+    omega (arith, power-small (l .loop .i) 18 (omega (arith, l .before .before .pre, c .before .before .before .before .loop-test .taken)), l .loop .inv .1, c .wide .ensures, c .before .if2 .left)
 
 add-i : tie.Need-add-i Inv-loop μ-loop
 add-i c = omega arith

@@ -1,17 +1,35 @@
 -- `number_of` meets its contract: a field without bytes is no number, and a minus stands before the digits.
 -- Assumes nothing.
-use mathlib.Core.Path.{sym, ap, _∙_}
-use mathlib.Core.Bool.{true}
-use Prim.Native.Nat.{_-_}
+use mathlib.Core.Path.{_≡_, refl, sym, ap, _∙_}
+use mathlib.Core.Bool.{true, false}
+use mathlib.Core.List.{List, [], _∷_}
+use Prim.Native.Nat.{ℕ, _-_}
 use native.Mathlib.Omega.{arith}
-use lib.ListN.{length, drop, length-drop}
+use borrow.Author.Tests.{eq-eqb, ne-eqb}
+use lib.ListN.{length, drop, getD, length-drop}
 use lib.Seq.{take-all}
 use denote.Ref.{now}
-use Rattle.command.specs.Numbers.{signedOf}
-use Rattle.command.proofs.Reading.{number-none, number-minus, number-plain}
+use Rattle.command.specs.declared.number.Number.{Number}
+use Rattle.command.specs.Numbers.{signedOf, numberOf}
 use borrow.Author.Needs.{needs}
 use Rattle.command.proofs.number.number_of.Statement.{statement}
 use Rattle.command.proofs.number.number_of.Tie as tie
+
+-- a field: without bytes, with a minus in front, and without one
+number-none : (bs : List ℕ) → length bs ≡ 0 → Number.Bad ≡ numberOf bs
+unfolding numberOf
+number-none [] e = refl
+number-none (b ∷ bs) e = absurd (omega arith)
+
+number-minus : (bs : List ℕ) → (length bs ≡ 0 → ⊥) → getD bs 0 0 ≡ 45 → numberOf bs ≡ signedOf true (drop 1 bs)
+unfolding numberOf
+number-minus [] some e = absurd (some refl)
+number-minus (b ∷ bs) some e = simp (eq-eqb b 45 e)
+
+number-plain : (bs : List ℕ) → (length bs ≡ 0 → ⊥) → (getD bs 0 0 ≡ 45 → ⊥) → signedOf false bs ≡ numberOf bs
+unfolding numberOf
+number-plain [] some e = absurd (some refl)
+number-plain (b ∷ bs) some e = simp (ne-eqb b 45 e)
 
 returns : tie.Need-returns
 returns c = number-none (now (c .before .before .args .field)) (c .if1 .taken)

@@ -7,7 +7,7 @@ use lib.IntN.{ℤ, pos, negℤ, _-ℤ_}
 use mir.Syntax.{w32, w64}
 use mir.Val.{SFits, toZ}
 use mir.Facts.{toZ-ofZ}
-use Rattle.command.proofs.Signs.{nothing-less, mag-minus}
+use Rattle.command.proofs.NumberSigns.{nothing-less, mag-minus}
 use borrow.Author.Needs.{needs}
 use native.Mathlib.Omega.{arith}
 use Rattle.command.proofs.number.ranged.Statement.{statement}

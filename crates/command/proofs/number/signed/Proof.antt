@@ -3,6 +3,7 @@
 use borrow.Author.Tests.{le-leb, lt-leb}
 use Rattle.command.specs.Numbers.{signedOf}
 use borrow.Author.Needs.{needs}
+use native.Mathlib.Omega.{arith}
 use Rattle.command.proofs.number.signed.Statement.{statement}
 use Rattle.command.proofs.number.signed.Tie as tie
 
@@ -15,7 +16,7 @@ unfolding signedOf
 returns-2 c = rw (le-leb _ _ (c .before .if1 .left), lt-leb _ _ (c .if2 .taken))
 
 magnitude-of-requires : tie.Need-magnitude-of-requires
-magnitude-of-requires c κs = search needs
+magnitude-of-requires c κs = omega (arith, c .if2 .left)
 
 enum-known-found : tie.Need-enum-known-found
 enum-known-found c = search needs

@@ -3,8 +3,8 @@
 use mathlib.Core.Path.{_≡_, sym, _∙_}
 use denote.Ref.{now}
 use Rattle.command.specs.Grammar.{fieldLength}
-use Rattle.command.proofs.Fields.{length-within, line-long, line-misread, line-read}
-use Rattle.command.proofs.Values.{asked-numbers, numbers-held}
+use Rattle.command.proofs.LineFields.{length-within, line-long, line-misread, line-read}
+use Rattle.command.proofs.FieldNumbers.{asked-numbers, numbers-held}
 use borrow.Author.Needs.{needs}
 use native.Mathlib.Omega.{arith}
 use Rattle.command.proofs.parse.command_of.Statement.{statement}

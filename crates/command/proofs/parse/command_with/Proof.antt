@@ -15,7 +15,7 @@ use mir.Val.{toZ, ofZ}
 use mir.Facts.{toZ-ofZ}
 use Rattle.time_table.proofs.Held.{held-length}
 use Rattle.command.specs.Grammar.{nth, numbersTaken}
-use Rattle.command.proofs.Letters.{letter-miscounted, letter-job, letter-load, letter-update, letter-fit, letter-rows, letter-none}
+use Rattle.command.proofs.LetterNumbers.{letter-miscounted, letter-job, letter-load, letter-update, letter-fit, letter-rows, letter-none}
 use Rattle.command.proofs.parse.command_with.Statement.{statement}
 use Rattle.command.proofs.parse.command_with.Tie as tie
 
@@ -37,7 +37,7 @@ module _ (c : tie.Else2) where
   good = not-false (start .args .numbers .ok) (c .before .before .if1 .left)
 
   counted : start .args .numbers .count ≡ numbersTaken (start .args .letter)
-  counted = c .if2 .left ∙ c .before .takes .ensures
+  counted = omega (arith, c .if2 .left, c .before .takes .ensures)
 
 returns : tie.Need-returns
 returns c = rw (not-true (c .before .before .args .numbers .ok) (c .if1 .taken))
@@ -49,7 +49,7 @@ returns-2 : tie.Need-returns-2
 returns-2 c =
     let k = c .before in
     let s = k .before .before .before in
-    rw (not-false (s .args .numbers .ok) (k .before .if1 .left)) (sym (letter-miscounted (s .args .letter) _ (λ e. c .if2 .taken (sym (all s) ∙ e ∙ sym (k .takes .ensures)))))
+    rw (not-false (s .args .numbers .ok) (k .before .if1 .left)) (sym (letter-miscounted (s .args .letter) _ (λ e. omega (arith, c .if2 .taken, all s, e, k .takes .ensures))))
 
 array-copy-out-t9 : tie.Need-array-copy-out-t9
 array-copy-out-t9 c = search needs

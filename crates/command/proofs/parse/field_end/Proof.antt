@@ -5,7 +5,7 @@ use Prim.Native.Nat.{_+_, _-_, _≤_}
 use lib.ListN.{length, drop}
 use denote.Ref.{now}
 use Rattle.command.specs.Grammar.{fieldLength}
-use Rattle.command.proofs.Fields.{length-here, length-further, length-end}
+use Rattle.command.proofs.LineFields.{length-here, length-further, length-end}
 use native.Mathlib.Omega.{arith}
 use Rattle.command.proofs.parse.field_end.Statement.{statement}
 use Rattle.command.proofs.parse.field_end.Tie as tie

@@ -15,8 +15,8 @@ use Rattle.time_table.specs.Held.{Held}
 use Rattle.time_table.proofs.Held.{held-push, held-list}
 use Rattle.command.specs.declared.number.Number.{Number}
 use Rattle.command.specs.Grammar.{fieldsFrom, Values, valuesOf, before, firstOf, numbersWith}
-use Rattle.command.proofs.Fields.{length-within}
-use Rattle.command.proofs.Values.{before-nothing, before-one, before-end, too-many, numbers-all, values-next, values-end}
+use Rattle.command.proofs.LineFields.{length-within}
+use Rattle.command.proofs.FieldNumbers.{before-nothing, before-one, before-end, too-many, numbers-all, values-next, values-end}
 use Rattle.command.proofs.parse.numbers_of.Statement.{statement}
 use Rattle.command.proofs.parse.numbers_of.Tie as tie
 

@@ -3,7 +3,7 @@
 use mathlib.Core.Path.{ap, _∙_}
 use mir.Facts.{toZ-ofZ}
 use Rattle.planner.specs.Questions.{fitOf}
-use Rattle.command.proofs.Outcomes.{fit-given}
+use Rattle.command.proofs.CommandOutcomes.{fit-given}
 use borrow.Author.Needs.{needs}
 use native.Mathlib.Omega.{arith}
 use Rattle.command.proofs.sessions.fit.Statement.{statement}

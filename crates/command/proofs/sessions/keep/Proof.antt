@@ -3,7 +3,7 @@
 use mathlib.Core.Path.{_∙_}
 use Rattle.time_table.proofs.Held.{held-push, held-self}
 use Rattle.planner.proofs.Kept.{keeping-more}
-use Rattle.command.proofs.Outcomes.{kept-refused, kept-more}
+use Rattle.command.proofs.CommandOutcomes.{kept-refused, kept-more}
 use borrow.Author.Needs.{needs}
 use native.Mathlib.Omega.{arith}
 use Rattle.command.proofs.sessions.keep.Statement.{statement}

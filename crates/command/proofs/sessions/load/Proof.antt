@@ -3,7 +3,7 @@
 use mathlib.Core.Path.{ap, _∙_}
 use mir.Facts.{toZ-ofZ}
 use Rattle.planner.specs.Loads.{loaded}
-use Rattle.command.proofs.Outcomes.{loads-given, no-jobs-held}
+use Rattle.command.proofs.CommandOutcomes.{loads-given, no-jobs-held}
 use borrow.Author.Needs.{needs}
 use native.Mathlib.Omega.{arith}
 use Rattle.command.proofs.sessions.load.Statement.{statement}

@@ -3,7 +3,7 @@
 use Rattle.planner.specs.Shown.{Shown}
 use Rattle.planner.specs.declared.Rows.{Rows}
 use mathlib.Core.Path.{sym, subst}
-use Rattle.command.proofs.Outcomes.{rows-given}
+use Rattle.command.proofs.CommandOutcomes.{rows-given}
 use Rattle.planner.proofs.ShownRows.{shown-rows}
 use borrow.Author.Needs.{needs}
 use native.Mathlib.Omega.{arith}

@@ -3,7 +3,7 @@
 use mathlib.Core.Path.{_∙_}
 use mir.Facts.{toZ-ofZ}
 use Rattle.planner.specs.Updates.{updated}
-use Rattle.command.proofs.Outcomes.{updates-given}
+use Rattle.command.proofs.CommandOutcomes.{updates-given}
 use borrow.Author.Needs.{needs}
 use native.Mathlib.Omega.{arith}
 use Rattle.command.proofs.sessions.update.Statement.{statement}

@@ -2,8 +2,8 @@
 -- Assumes nothing.
 use mathlib.Core.Path.{ap}
 use lib.ListN.{length, length-append}
-use Rattle.command.proofs.Writing.{written-length, written-more}
-use Rattle.command.proofs.Digits.{decimal-one, decimal-more}
+use Rattle.command.proofs.WrittenText.{written-length, written-more}
+use Rattle.command.proofs.DecimalDigits.{decimal-one, decimal-more}
 use native.Mathlib.Omega.{arith}
 use Prim.Native.Nat.{ℕ, _<_}
 use borrow.Fn.Kinds.{In}

@@ -6,7 +6,7 @@ use mir.Syntax.{w32, w64}
 use mir.Val.{SFits, toZ, ofZ}
 use mir.Facts.{toZ-ofZ}
 use lib.Signed.{natAbs-le}
-use Rattle.command.proofs.Signs.{less-nothing, not-less}
+use Rattle.command.proofs.NumberSigns.{less-nothing, not-less}
 use borrow.Author.Needs.{needs}
 use native.Mathlib.Omega.{arith}
 use Rattle.command.proofs.text.magnitude.Statement.{statement}

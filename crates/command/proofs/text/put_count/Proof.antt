@@ -1,8 +1,8 @@
 -- `put_count` meets its contract: the letter, the number after a space, and the line feed.
 -- Assumes nothing.
 use Rattle.command.specs.Text.{countText}
-use Rattle.command.proofs.Writing.{written-length, written-more}
-use Rattle.command.proofs.Lengths.{count-length}
+use Rattle.command.proofs.WrittenText.{written-length, written-more}
+use Rattle.command.proofs.TextLengths.{count-length}
 use borrow.Author.Needs.{needs}
 use native.Mathlib.Omega.{arith}
 use Rattle.command.proofs.text.put_count.Statement.{statement}

@@ -7,8 +7,8 @@ use lib.ListN.{take, getD}
 use Rattle.time_table.proofs.Held.{held-length}
 use Rattle.command.specs.Text.{idText, idsText}
 use Rattle.command.specs.Written.{Written}
-use Rattle.command.proofs.Writing.{written-none, written-length, written-more}
-use Rattle.command.proofs.Digits.{decimal-short}
+use Rattle.command.proofs.WrittenText.{written-none, written-length, written-more}
+use Rattle.command.proofs.DecimalDigits.{decimal-short}
 use Rattle.time_table.proofs.Mapped.{flat-take}
 use borrow.Author.Needs.{needs}
 use native.Mathlib.Omega.{arith}

@@ -1,6 +1,6 @@
 -- `put_letter` meets its contract: the letter, and then the line feed.
 -- Assumes nothing.
-use Rattle.command.proofs.Writing.{written-more}
+use Rattle.command.proofs.WrittenText.{written-more}
 use borrow.Author.Needs.{needs}
 use Rattle.command.proofs.text.put_letter.Statement.{statement}
 use Rattle.command.proofs.text.put_letter.Tie as tie

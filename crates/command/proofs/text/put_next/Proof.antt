@@ -1,6 +1,6 @@
 -- `put_next` meets its contract: the space, and then the number.
 -- Assumes nothing.
-use Rattle.command.proofs.Writing.{written-more}
+use Rattle.command.proofs.WrittenText.{written-more}
 use borrow.Author.Needs.{needs}
 use Rattle.command.proofs.text.put_next.Statement.{statement}
 use Rattle.command.proofs.text.put_next.Tie as tie

@@ -4,7 +4,7 @@ use mathlib.Core.Path.{_≡_}
 use mir.Syntax.{w32}
 use mir.Val.{toZ, ofZ}
 use mir.Facts.{toZ-ofZ}
-use Rattle.command.proofs.Writing.{written-length, written-more}
+use Rattle.command.proofs.WrittenText.{written-length, written-more}
 use borrow.Author.Needs.{needs}
 use native.Mathlib.Omega.{arith}
 use Rattle.command.proofs.text.put_next_signed.Statement.{statement}

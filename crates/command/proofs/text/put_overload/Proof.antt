@@ -10,9 +10,9 @@ use mir.Facts.{toZ-ofZ}
 use Rattle.command.specs.Decimal.{signedText}
 use Rattle.command.specs.Text.{spaced, overloadText}
 use Rattle.command.specs.Written.{Room, Written}
-use Rattle.command.proofs.Writing.{written-length, written-more}
-use Rattle.command.proofs.Digits.{decimal-short, signed-short}
-use Rattle.command.proofs.Lengths.{overload-length}
+use Rattle.command.proofs.WrittenText.{written-length, written-more}
+use Rattle.command.proofs.DecimalDigits.{decimal-short, signed-short}
+use Rattle.command.proofs.TextLengths.{overload-length}
 use borrow.Author.Needs.{needs}
 use native.Mathlib.Omega.{arith}
 use Rattle.command.proofs.text.put_overload.Statement.{statement}

@@ -1,8 +1,8 @@
 -- `put_refusal` meets its contract: the letter and the refusal's number.
 -- Assumes nothing.
 use Rattle.command.specs.Text.{refusalText}
-use Rattle.command.proofs.Digits.{decimal-short}
-use Rattle.command.proofs.Lengths.{count-length}
+use Rattle.command.proofs.DecimalDigits.{decimal-short}
+use Rattle.command.proofs.TextLengths.{count-length}
 use native.Mathlib.Omega.{arith}
 use borrow.Author.Needs.{needs}
 use Rattle.command.proofs.text.put_refusal.Statement.{statement}

@@ -11,8 +11,8 @@ use denote.Ref.{now}
 use Rattle.command.specs.Decimal.{decimal, signedText}
 use Rattle.command.specs.Text.{spaced, rowText}
 use Rattle.command.specs.Written.{Written}
-use Rattle.command.proofs.Writing.{written-length, written-more}
-use Rattle.command.proofs.Digits.{decimal-short, signed-short}
+use Rattle.command.proofs.WrittenText.{written-length, written-more}
+use Rattle.command.proofs.DecimalDigits.{decimal-short, signed-short}
 use borrow.Author.Needs.{needs}
 use native.Mathlib.Omega.{arith}
 use Rattle.command.proofs.text.put_row.Statement.{statement}

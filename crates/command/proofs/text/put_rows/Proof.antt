@@ -8,7 +8,7 @@ use Rattle.time_table.proofs.Held.{held-length}
 use Rattle.planner.specs.Records.{noRow}
 use Rattle.command.specs.Text.{rowText, rowsText}
 use Rattle.command.specs.Written.{Written}
-use Rattle.command.proofs.Writing.{written-none, written-length, written-more}
+use Rattle.command.proofs.WrittenText.{written-none, written-length, written-more}
 use Rattle.time_table.proofs.Mapped.{flat-take}
 use borrow.Author.Needs.{needs}
 use native.Mathlib.Omega.{arith}
@@ -41,7 +41,7 @@ put-row-requires c κs =
     let t = c .before .before in
     let l = t .before in
     let s = l .before .before in (
-      s .pre .0 .ids noRow (l .loop .i) (t .loop-test .taken),
+      s .pre .0 .ids noRow (l .loop .i) (omega (arith, t .loop-test .taken)),
       omega (arith, t .loop-test .taken, s .pre .0 .held .fits, s .pre .1, l .loop .inv .1, written-length (l .loop .inv .2)),
     )
 

@@ -8,8 +8,8 @@ use mir.Syntax.{w32}
 use mir.Val.{toZ, ofZ}
 use mir.Facts.{toZ-ofZ}
 use Rattle.command.specs.Decimal.{decimal, signedText}
-use Rattle.command.proofs.Writing.{written-length, written-more}
-use Rattle.command.proofs.Signs.{signed-minus, signed-plain}
+use Rattle.command.proofs.WrittenText.{written-length, written-more}
+use Rattle.command.proofs.NumberSigns.{signed-minus, signed-plain}
 use borrow.Author.Needs.{needs}
 use native.Mathlib.Omega.{arith}
 use Rattle.command.proofs.text.put_signed.Statement.{statement}

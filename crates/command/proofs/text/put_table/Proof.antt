@@ -1,9 +1,9 @@
 -- `put_table` meets its contract: the rows, and then their count; or the refusal.
 -- Assumes nothing.
 use Rattle.command.specs.Text.{tableText}
-use Rattle.command.proofs.Writing.{written-length, written-more}
-use Rattle.command.proofs.Digits.{decimal-short}
-use Rattle.command.proofs.Lengths.{count-length}
+use Rattle.command.proofs.WrittenText.{written-length, written-more}
+use Rattle.command.proofs.DecimalDigits.{decimal-short}
+use Rattle.command.proofs.TextLengths.{count-length}
 use borrow.Author.Needs.{needs}
 use native.Mathlib.Omega.{arith}
 use Rattle.command.proofs.text.put_table.Statement.{statement}
@@ -17,22 +17,23 @@ put-rows-requires c κs =
     let s = c .before .before .before .before in
     (s .pre .0, omega (arith, s .pre .1))
 
-cast-put-count : tie.Need-cast-put-count
-cast-put-count c =
-    let s = c .before .before .before .before .before .before .before .before .before in
+row-count-requires : tie.Need-row-count-requires
+row-count-requires c κs =
+    let s = c .before .before .before .before .before .before .before .before in
     omega (arith, s .pre .0 .held .fits)
 
 put-count-requires : tie.Need-put-count-requires
 put-count-requires c κs =
     let p = c .before .before .before .before in
     let s = p .before .before .before .before .before in
+    let few = s .pre .0 .held .fits in
     omega (
       arith,
       s .pre .1,
       p .put-rows .ensures .1,
       written-length (p .put-rows .ensures .0),
-      count-length 69 (s .args .rows .count),
-      decimal-short (s .args .rows .count) (omega (arith, s .pre .0 .held .fits)),
+      count-length 69 (c .row-count .result),
+      decimal-short (c .row-count .result) (omega (arith, c .row-count .ensures)),
     )
 
 enum-known-answer : tie.Need-enum-known-answer
@@ -48,8 +49,9 @@ returns : tie.Need-returns
 unfolding tableText
 returns c =
     let e = c .before .before in
-    let p = e .before .before .before .before .before in
-    rw (p .before .before .enum-told .given .1) (written-more (p .put-rows .ensures .0) (e .put-count .ensures))
+    let n = e .before in
+    let p = n .before .before .before .before in
+    rw (p .before .before .enum-told .given .1) (written-more (p .put-rows .ensures .0) (rw (n .row-count .ensures) at (e .put-count .ensures)))
 
 same-length-2 : tie.Need-same-length-2
 same-length-2 c = search needs
@@ -64,7 +66,7 @@ put-table-spec =
     (tie.spec
     enum-told
     put-rows-requires
-    cast-put-count
+    row-count-requires
     put-count-requires
     enum-known-answer
     put-refusal-requires

@@ -2,7 +2,7 @@
 -- Assumes nothing.
 use mathlib.Core.Path.{refl}
 use Rattle.time_table.proofs.Held.{held-length}
-use Rattle.command.proofs.Serving.{nothing-left, line-left}
+use Rattle.command.proofs.ServedLines.{nothing-left, line-left}
 use borrow.Author.Needs.{needs}
 use native.Mathlib.Omega.{arith}
 use Rattle.command.proofs.lines.State.finish.Statement.{statement}

@@ -1,6 +1,6 @@
 -- `State::new` meets its contract: a fresh session, and no line begun.
 -- Assumes nothing.
-use Rattle.command.proofs.Serving.{no-line-held}
+use Rattle.command.proofs.ServedLines.{no-line-held}
 use borrow.Author.Needs.{needs}
 use Rattle.command.proofs.lines.State.new.Statement.{statement}
 use Rattle.command.proofs.lines.State.new.Tie as tie

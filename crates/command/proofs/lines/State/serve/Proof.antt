@@ -4,7 +4,7 @@ use borrow.Author.Tests.{not-true, not-false}
 use denote.Ref.{now}
 use lib.ListN.{drop}
 use Rattle.time_table.proofs.Held.{held-length}
-use Rattle.command.proofs.Serving.{serves-open, serves-line, no-line-held}
+use Rattle.command.proofs.ServedLines.{serves-open, serves-line, no-line-held}
 use borrow.Author.Needs.{needs}
 use native.Mathlib.Omega.{arith}
 use Rattle.command.proofs.lines.State.serve.Statement.{statement}

@@ -1,20 +1,18 @@
 -- What is left of a field is the byte at its place and the bytes behind, so each byte is one step of the definition: a digit is put behind the value,
--- another byte makes it bad, and the end keeps it; a minus in front is the sign.
+-- another byte makes it bad, and the end keeps it.
 -- Assumes nothing.
-use mathlib.Core.Path.{_≡_, refl}
-use mathlib.Core.Bool.{true, false}
-use mathlib.Core.List.{List, [], _∷_}
+use mathlib.Core.Path.{_≡_}
+use mathlib.Core.List.{List}
 use Prim.Native.Nat.{ℕ, _+_, _-_, _*_, _^_, _≤_, _<_}
 use native.Mathlib.Nat.{pow-suc, pow-le-pow-right}
 use native.Mathlib.Numerals.{add-one}
 use native.Mathlib.Omega.{arith}
-use borrow.Author.Tests.{eq-eqb, ne-eqb, le-leb, lt-leb}
+use borrow.Author.Tests.{le-leb, lt-leb}
 use lib.Dec.{lit<}
 use lib.ListN.{length, drop, getD, drop-of-length-le}
 use lib.Seq.{drop-cons}
-use Rattle.command.specs.declared.number.Number.{Number}
 use Rattle.command.specs.declared.number.Magnitude.{Magnitude}
-use Rattle.command.specs.Numbers.{isDigit, magnitudeFrom, signedOf, numberOf}
+use Rattle.command.specs.Numbers.{isDigit, magnitudeFrom}
 
 -- the next byte is no digit, or one; or there is none
 module _ (bs : List ℕ) (i value : ℕ) (inside : i < length bs) where
@@ -42,19 +40,3 @@ power-more i = rw (add-one i) (pow-suc 10 i)
 
 pub power-small : (i n : ℕ) → i ≤ n → 10 ^ i ≤ 10 ^ n
 power-small i n h = pow-le-pow-right (lit< tt) h
-
--- a field: without bytes, with a minus in front, and without one
-pub number-none : (bs : List ℕ) → length bs ≡ 0 → Number.Bad ≡ numberOf bs
-unfolding numberOf
-number-none [] e = refl
-number-none (b ∷ bs) e = absurd (omega arith)
-
-pub number-minus : (bs : List ℕ) → (length bs ≡ 0 → ⊥) → getD bs 0 0 ≡ 45 → numberOf bs ≡ signedOf true (drop 1 bs)
-unfolding numberOf
-number-minus [] some e = absurd (some refl)
-number-minus (b ∷ bs) some e = simp (eq-eqb b 45 e)
-
-pub number-plain : (bs : List ℕ) → (length bs ≡ 0 → ⊥) → (getD bs 0 0 ≡ 45 → ⊥) → signedOf false bs ≡ numberOf bs
-unfolding numberOf
-number-plain [] some e = absurd (some refl)
-number-plain (b ∷ bs) some e = simp (ne-eqb b 45 e)

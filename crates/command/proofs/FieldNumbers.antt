@@ -18,8 +18,8 @@ use Rattle.command.specs.declared.number.Number.{Number}
 use Rattle.command.specs.Numbers.{numberOf}
 use Rattle.command.specs.declared.Command.the-variants.{Unreadable}
 use Rattle.command.specs.Grammar.{fieldLength, fieldsFrom, Values, all, none, before, firstOf, valuesOf, byLetter, asked, heldNumbers, noNumbers, someNumbers, numbersWith}
-use Rattle.command.proofs.Fields.{fields-next, fields-end}
-use Rattle.command.proofs.Letters.{letter-many}
+use Rattle.command.proofs.LineFields.{fields-next, fields-end}
+use Rattle.command.proofs.LetterNumbers.{letter-many}
 
 pub before-nothing : (v : Values) → v ≡ before [] v
 before-nothing (all m) = refl

@@ -25,7 +25,7 @@ use Rattle.command.specs.declared.Answered.{Answered}
 use Rattle.command.specs.Text.{refusalText, answerText, fitText, tableText}
 use Rattle.command.specs.Written.{Written}
 use Rattle.command.specs.Sessions.{Outcome, Gives, Answers, kept, loads, updates, asksFit, asksRows}
-use Rattle.command.proofs.Writing.{written-none, written-front}
+use Rattle.command.proofs.WrittenText.{written-none, written-front}
 
 module _ {out after : List ℕ} {n : ℕ} (s : Session) where
   pub loads-given : (capacity : ℤ) (l : Loaded) (jobs : Jobs) → l ≡ loaded (s .plan) (s .jobs) capacity → jobs ≡ jobsWith []
