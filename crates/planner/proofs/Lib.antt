@@ -35,6 +35,7 @@ pub mod Unique
 pub mod FitInstants
 pub mod HeardFit
 pub mod HeardIds
+pub mod HeardStale
 pub mod FirstRow
 pub mod Corners
 pub mod Edges

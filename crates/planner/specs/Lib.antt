@@ -13,6 +13,7 @@ pub mod Updates
 pub mod Questions
 pub mod Shown
 pub mod History
+pub mod Stale
 pub mod Demand
 pub mod Cumulative
 pub mod Refused
