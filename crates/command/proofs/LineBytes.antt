@@ -10,7 +10,7 @@ use lib.ListN.{length, drop, getD, drop-of-length-le}
 use lib.Seq.{drop-cons}
 use Rattle.time_table.specs.Held.{Held}
 use Rattle.command.specs.declared.lines.Reader.{Reader}
-use Rattle.command.specs.Lines.{readerOf, grown, filling}
+use Rattle.command.specs.Lines.{readerOf, grown, filling, readerRoom}
 
 module _ (chunk l : List ℕ) (at : ℕ) where
   pub filling-end : length chunk ≤ at → filling l at (drop at chunk) ≡ record { reader = readerOf l; next = at; complete = false }
@@ -25,11 +25,11 @@ module _ (chunk l : List ℕ) (at : ℕ) where
   unfolding filling
   filling-more inside other = rw (drop-cons chunk at 0 inside, add-one at) (simp (ne-eqb (getD chunk at 0) 10 other))
 
-pub grown-more : (l : List ℕ) (b : ℕ) → length l < 81 → grown l b ≡ l ++ b ∷ []
-grown-more l b room = simp (lt-ltb (length l) 81 room)
+pub grown-more : (l : List ℕ) (b : ℕ) → length l < readerRoom → grown l b ≡ l ++ b ∷ []
+grown-more l b room = simp (lt-ltb (length l) readerRoom room)
 
-pub grown-full : (l : List ℕ) (b : ℕ) → 81 ≤ length l → grown l b ≡ l
-grown-full l b full = simp (le-ltb (length l) 81 full)
+pub grown-full : (l : List ℕ) (b : ℕ) → readerRoom ≤ length l → grown l b ≡ l
+grown-full l b full = simp (le-ltb (length l) readerRoom full)
 
-pub reader-is : {line l : List ℕ} {n : ℕ} → Held 81 0 line n l → _≡_ {A = Reader} (record { line = line; len = n }) (readerOf l)
+pub reader-is : {line l : List ℕ} {n : ℕ} → Held readerRoom 0 line n l → _≡_ {A = Reader} (record { line = line; len = n }) (readerOf l)
 reader-is h i = record { line = h .is i; len = h .counts i }

@@ -13,7 +13,7 @@ use lib.ListN.{length, take, drop, getD, length-drop, drop-of-length-le}
 use lib.Seq.{drop-cons, drop-drop, take-nil}
 use Rattle.time_table.proofs.Bits.{same-test}
 use Rattle.command.specs.declared.Command.the-variants.{Unreadable}
-use Rattle.command.specs.Grammar.{inFirst, fieldsOf, fieldLength, fieldsFrom, valuesOf, asked, askedBy, commandOf}
+use Rattle.command.specs.Grammar.{inFirst, fieldsOf, fieldLength, fieldsFrom, valuesOf, asked, askedBy, commandOf, lineLimit}
 
 module _ (line : List ℕ) (end : ℕ) (inside : end < length line) where
   pub length-here : getD line end 0 ≡ 32 → fieldLength (drop end line) ≡ 0
@@ -88,20 +88,20 @@ not-letter (b ∷ bs) (suc zero) fields h other = absurd (other refl)
 not-letter (b ∷ []) (suc (suc k)) fields h other = absurd (omega arith)
 not-letter (b ∷ d ∷ bs) (suc (suc k)) fields h other = refl
 
-pub line-misread : (line : List ℕ) → length line ≤ 80 → (fieldLength line ≡ 1 → ⊥) → commandOf line ≡ Unreadable
+pub line-misread : (line : List ℕ) → length line ≤ lineLimit → (fieldLength line ≡ 1 → ⊥) → commandOf line ≡ Unreadable
 unfolding commandOf
-line-misread line few other = simp (le-leb (length line) 80 few) (rw (fields-whole line) (not-letter line (fieldLength line) _ (length-within line) other))
+line-misread line few other = simp (le-leb (length line) lineLimit few) (rw (fields-whole line) (not-letter line (fieldLength line) _ (length-within line) other))
 
 -- a letter, and its numbers
 letter-first : (l : List ℕ) (fields : List (List ℕ)) → 1 ≤ length l → askedBy (take 1 l ∷ fields) ≡ asked (getD l 0 0) (valuesOf fields)
 letter-first [] fields h = absurd (omega arith)
 letter-first (b ∷ bs) fields h = refl
 
-pub line-read : (line : List ℕ) → length line ≤ 80 → fieldLength line ≡ 1 → commandOf line ≡ asked (getD line 0 0) (valuesOf (fieldsFrom line 2))
+pub line-read : (line : List ℕ) → length line ≤ lineLimit → fieldLength line ≡ 1 → commandOf line ≡ asked (getD line 0 0) (valuesOf (fieldsFrom line 2))
 unfolding commandOf
 line-read line few one =
-    simp (le-leb (length line) 80 few) (rw (fields-whole line, one) (letter-first line (fieldsFrom line 2) (omega (arith, one, length-within line))))
+    simp (le-leb (length line) lineLimit few) (rw (fields-whole line, one) (letter-first line (fieldsFrom line 2) (omega (arith, one, length-within line))))
 
-pub line-long : (line : List ℕ) → 80 < length line → commandOf line ≡ Unreadable
+pub line-long : (line : List ℕ) → lineLimit < length line → commandOf line ≡ Unreadable
 unfolding commandOf
-line-long line many = simp (lt-leb (length line) 80 many)
+line-long line many = simp (lt-leb (length line) lineLimit many)

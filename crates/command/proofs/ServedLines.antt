@@ -16,7 +16,7 @@ use Rattle.command.specs.declared.lines.Reader.{Reader}
 use Rattle.command.specs.declared.lines.State.{State}
 use Rattle.command.specs.declared.lines.Filled.{Filled}
 use Rattle.command.specs.Sessions.{Answers, answered}
-use Rattle.command.specs.Lines.{bytesOf, readerOf, grown, filling, Step, lineTaken, bytesTaken, taken, served, Serves, finished}
+use Rattle.command.specs.Lines.{bytesOf, readerOf, grown, filling, Step, lineTaken, bytesTaken, taken, served, Serves, finished, readerRoom}
 
 module _ (s : State) (at : ℕ) (bytes : List ℕ) (f : Filled) (e : f ≡ filling (bytesOf (s .reader)) at bytes) where
   served-as : served s at bytes ≡ taken s f
@@ -50,7 +50,7 @@ pub line-left : (s : State) → (s .reader .len ≡ 0 → ⊥) → finished s �
 unfolding finished
 line-left s some = simp (ne-eqb (s .reader .len) 0 some)
 
-pub no-line-held : Held 81 0 (readerOf [] .line) 0 []
+pub no-line-held : Held readerRoom 0 (readerOf [] .line) 0 []
 no-line-held = record { is = refl; counts = refl; fits = omega arith }
 
 -- whether a line feed was met or not, the place is the filled one's

@@ -15,21 +15,22 @@ use Rattle.time_table.proofs.Sums.{lt-or-le}
 use Rattle.command.specs.declared.Session.{Session}
 use Rattle.command.specs.declared.lines.State.{State}
 use Rattle.command.specs.declared.lines.Filled.{Filled}
+use Rattle.command.specs.Grammar.{lineLimit}
 use Rattle.command.specs.Sessions.{outcome, answered}
-use Rattle.command.specs.Lines.{linesAfter, lastLine, printed, transcript, bytesOf, readerOf, HeldLine, grown, filling, freshState, lineTaken, bytesTaken, taken, served, finished, joined, Prints, line, next, end}
+use Rattle.command.specs.Lines.{linesAfter, lastLine, printed, transcript, bytesOf, readerOf, HeldLine, grown, filling, freshState, lineTaken, bytesTaken, taken, served, finished, joined, Prints, line, next, end, readerRoom}
 use Rattle.command.proofs.LineFields.{line-long}
 use Rattle.command.proofs.LineBytes.{grown-more, grown-full}
 use Rattle.command.proofs.ServedLines.{taken-next, nothing-left, line-left, served-further}
 
 -- two lines that are too long are answered alike
-alike : (s : Session) (l m : List ℕ) → 80 < length l → 80 < length m → answered s l ≡ answered s m
+alike : (s : Session) (l m : List ℕ) → lineLimit < length l → lineLimit < length m → answered s l ≡ answered s m
 alike s l m p q = ap (outcome s) (line-long l p ∙ sym (line-long m q))
 
 last-line : (l : List ℕ) → 0 < length l → lastLine l ≡ l ∷ []
 last-line [] h = absurd (omega arith)
 last-line (b ∷ bs) h = refl
 
-long : (bytes : List ℕ) (s : Session) (l m : List ℕ) → 80 < length l → 80 < length m → printed s (linesAfter l bytes) ≡ printed s (linesAfter m bytes)
+long : (bytes : List ℕ) (s : Session) (l m : List ℕ) → lineLimit < length l → lineLimit < length m → printed s (linesAfter l bytes) ≡ printed s (linesAfter m bytes)
 unfolding linesAfter printed
 long [] s l m p q =
     rw (last-line l (omega arith), last-line m (omega arith))
@@ -49,18 +50,18 @@ grown-alike bytes s l b =
     ⊎-elim
     (λ room. ap (λ (x : List ℕ). printed s (linesAfter x bytes)) (sym (grown-more l b room)))
     (λ full. long bytes s (l ++ b ∷ []) l (omega (arith, length-append l (b ∷ []))) (omega arith) ∙ ap (λ (x : List ℕ). printed s (linesAfter x bytes)) (sym (grown-full l b full)))
-    (lt-or-le (length l) 81)
+    (lt-or-le (length l) readerRoom)
 
-grown-small : (l : List ℕ) (b : ℕ) → length l ≤ 81 → length (grown l b) ≤ 81
+grown-small : (l : List ℕ) (b : ℕ) → length l ≤ readerRoom → length (grown l b) ≤ readerRoom
 grown-small l b h =
     ⊎-elim
     (λ room. rw (grown-more l b room) (omega (arith, length-append l (b ∷ []))))
     (λ full. rw (grown-full l b full) h)
-    (lt-or-le (length l) 81)
+    (lt-or-le (length l) readerRoom)
 
 -- a reader has the bytes that it was made of
-reader-bytes : (l : List ℕ) → length l ≤ 81 → bytesOf (readerOf l) ≡ l
-reader-bytes l h = held-list {cap = 81} {n = length l} {blank = 0} {arr = readerOf l .line} {l = l} (record { is = refl; counts = refl; fits = h })
+reader-bytes : (l : List ℕ) → length l ≤ readerRoom → bytesOf (readerOf l) ≡ l
+reader-bytes l h = held-list {cap = readerRoom} {n = length l} {blank = 0} {arr = readerOf l .line} {l = l} (record { is = refl; counts = refl; fits = h })
 
 -- the bytes behind the first line feed
 unfoldable behindFeed : List ℕ → List ℕ
@@ -71,7 +72,7 @@ module _ (st : State) (later : List ℕ) where
   abbrev onward : Filled → List ℕ → List ℕ
   onward f left = taken st f .text ++ printed (taken st f .state .session) (linesAfter (bytesOf (taken st f .state .reader)) (left ++ later))
 
-  fill-prints : (bytes l : List ℕ) (at : ℕ) → length l ≤ 81 → printed (st .session) (linesAfter l (bytes ++ later)) ≡ onward (filling l at bytes) (behindFeed bytes)
+  fill-prints : (bytes l : List ℕ) (at : ℕ) → length l ≤ readerRoom → printed (st .session) (linesAfter l (bytes ++ later)) ≡ onward (filling l at bytes) (behindFeed bytes)
   unfolding filling behindFeed linesAfter printed
   fill-prints [] l at h = rw (reader-bytes l h)
   fill-prints (b ∷ bytes) l at h = go (eqb b 10) (grown-alike (bytes ++ later) (st .session) l b ∙ fill-prints bytes (grown l b) (at + 1) (grown-small l b h))
@@ -101,7 +102,7 @@ fill-next piece (b ∷ bytes) l at e = go (eqb b 10) (fill-next piece bytes (gro
 abbrev toCome : State → List ℕ → List ℕ
 toCome st bytes = printed (st .session) (linesAfter (bytesOf (st .reader)) bytes)
 
-line-short : (st : State) → HeldLine (st .reader) → length (bytesOf (st .reader)) ≤ 81
+line-short : (st : State) → HeldLine (st .reader) → length (bytesOf (st .reader)) ≤ readerRoom
 line-short st h = omega (arith, h .counts, h .fits)
 
 -- what is printed for a line, and then for what is left
@@ -115,10 +116,10 @@ step st piece later at h =
     ∙ ap (onward st later f) (sym (fill-next piece (drop at piece) (bytesOf (st .reader)) at refl) ∙ ap (λ (n : ℕ). drop n piece) (sym (taken-next st f)))
 
 -- the reader goes on to hold a line
-reader-held : (l : List ℕ) → length l ≤ 81 → HeldLine (readerOf l)
-reader-held l h = held-self {cap = 81} {n = length l} {blank = 0} {arr = readerOf l .line} {l = l} (record { is = refl; counts = refl; fits = h })
+reader-held : (l : List ℕ) → length l ≤ readerRoom → HeldLine (readerOf l)
+reader-held l h = held-self {cap = readerRoom} {n = length l} {blank = 0} {arr = readerOf l .line} {l = l} (record { is = refl; counts = refl; fits = h })
 
-filling-held : (bytes l : List ℕ) (at : ℕ) → length l ≤ 81 → HeldLine (filling l at bytes .reader)
+filling-held : (bytes l : List ℕ) (at : ℕ) → length l ≤ readerRoom → HeldLine (filling l at bytes .reader)
 unfolding filling
 filling-held [] l at h = reader-held l h
 filling-held (b ∷ bytes) l at h = go (eqb b 10) (filling-held bytes (grown l b) (at + 1) (grown-small l b h))

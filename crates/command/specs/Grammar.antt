@@ -70,9 +70,13 @@ askedBy ([] ∷ fields) = Unreadable
 askedBy ((letter ∷ []) ∷ fields) = asked letter (valuesOf fields)
 askedBy ((letter ∷ b ∷ bs) ∷ fields) = Unreadable
 
+-- the most bytes that a line may have
+abbrev pub lineLimit : ℕ
+lineLimit = 80
+
 -- the command of a line
 unfoldable pub commandOf : List ℕ → Command
-commandOf line = cond (leb (length line) 80) (askedBy (fieldsOf line)) Unreadable
+commandOf line = cond (leb (length line) lineLimit) (askedBy (fieldsOf line)) Unreadable
 
 -- how long the first field is, and the fields from a place on
 unfoldable pub fieldLength : List ℕ → ℕ

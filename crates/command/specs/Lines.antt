@@ -11,6 +11,7 @@ use Rattle.command.specs.declared.lines.Reader.{Reader}
 use Rattle.command.specs.declared.lines.State.{State}
 use Rattle.command.specs.declared.lines.Filled.{Filled}
 use Rattle.command.specs.declared.lines.Served.{Served}
+use Rattle.command.specs.Grammar.{lineLimit}
 use Rattle.command.specs.Sessions.{Ready, freshSession, answered}
 
 -- the lines of a stream of bytes, after those of a line that is not complete; the last may lack its line feed
@@ -34,19 +35,23 @@ printed s (line ∷ lines) = answered s line .text ++ printed (answered s line .
 abbrev pub transcript : List ℕ → List ℕ
 transcript bytes = printed freshSession (linesOf bytes)
 
+-- a reader has room for one byte more than a line may have: that byte makes the line too long
+abbrev pub readerRoom : ℕ
+readerRoom = lineLimit + 1
+
 -- the bytes of a reader, and the reader of some bytes
 abbrev pub bytesOf : Reader → List ℕ
 bytesOf reader = take (reader .len) (reader .line)
 
 abbrev pub readerOf : List ℕ → Reader
-readerOf l = record { line = pad 81 0 l; len = length l }
+readerOf l = record { line = pad readerRoom 0 l; len = length l }
 
 abbrev pub HeldLine : Reader → Type 0
-HeldLine reader = Held 81 0 (reader .line) (reader .len) (bytesOf reader)
+HeldLine reader = Held readerRoom 0 (reader .line) (reader .len) (bytesOf reader)
 
 -- one more byte, unless the line is too long already
 abbrev pub grown : List ℕ → ℕ → List ℕ
-grown l b = cond (ltb (length l) 81) (l ++ b ∷ []) l
+grown l b = cond (ltb (length l) readerRoom) (l ++ b ∷ []) l
 
 -- the bytes up to the first line feed, or all, that stand from a place on
 unfoldable pub filling : List ℕ → ℕ → List ℕ → Filled

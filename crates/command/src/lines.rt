@@ -7,10 +7,10 @@ ghost use Rattle.command.specs.Text.{longest};
 ghost use Rattle.command.specs.Lines.{bytesOf, readerOf, HeldLine, filling, ReadyState, freshState, Serves, finished};
 use crate::Session;
 
-// The bytes of a line that is not complete, in `line` up to `len`. Past 80 one more byte is kept, which
-// makes the line too long to be read, and no others.
+// The bytes of a line that is not complete, in `line` up to `len`. Past `Reader::LINE` one more byte is
+// kept, which makes the line too long to be read, and no others.
 pub struct Reader {
-    pub(crate) line: [u8; 81],
+    pub(crate) line: [u8; Reader::ROOM],
     pub(crate) len: usize,
 }
 
@@ -37,12 +37,17 @@ pub struct Served {
 }
 
 impl Reader {
+    // The most bytes that a line may have.
+    pub const LINE: usize = 80;
+    // The bytes that are kept of a line at most.
+    pub const ROOM: usize = Reader::LINE + 1;
+
     // A line without bytes.
     pub(crate) fn empty() -> Reader
         ensures { λ r. ⌜ r ≡ readerOf [] ⌝ }
     {
         Reader {
-            line: [0u8; 81],
+            line: [0u8; Reader::ROOM],
             len: 0,
         }
     }
@@ -67,7 +72,7 @@ pub(crate) fn fill(reader: Reader, chunk: &[u8], from: usize) -> Filled
                 complete: true,
             };
         }
-        if len < 81 {
+        if len < Reader::ROOM {
             line[len] = byte;
             len += 1;
         }

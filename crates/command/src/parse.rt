@@ -6,6 +6,7 @@ ghost use lib.ListN.{length, take, drop};
 ghost use Rattle.command.specs.declared.Command.the-variants.{Unreadable};
 ghost use Rattle.command.specs.Grammar.{fieldLength, fieldsFrom, valuesOf, heldNumbers, numbersWith, numbersTaken, byLetter, commandOf};
 use crate::Command;
+use crate::lines::Reader;
 use crate::number::Number;
 use crate::number::number_of;
 use planner::Job;
@@ -127,11 +128,11 @@ pub(crate) fn command_with(letter: u8, numbers: Numbers) -> Command
     Command::Unreadable
 }
 
-// The command of a line, which has at most 80 bytes.
+// The command of a line, which has at most `Reader::LINE` bytes.
 pub fn command_of(line: &[u8]) -> Command
     ensures { λ r. ⌜ r ≡ commandOf (now (line .entry)) ⌝ }
 {
-    if 80 < line.len() {
+    if Reader::LINE < line.len() {
         return Command::Unreadable;
     }
     let end = field_end(line, 0);

@@ -8,14 +8,14 @@ use lib.ListN.{length, take, drop, getD, set}
 use denote.Ref.{now}
 use Rattle.time_table.specs.Held.{Held}
 use Rattle.time_table.proofs.Held.{held-push, held-list}
-use Rattle.command.specs.Lines.{grown, filling}
+use Rattle.command.specs.Lines.{grown, filling, readerRoom}
 use Rattle.command.proofs.LineBytes.{filling-end, filling-feed, filling-more, grown-more, grown-full, reader-is}
 use native.Mathlib.Omega.{arith}
 use Rattle.command.proofs.lines.fill.Statement.{statement}
 use Rattle.command.proofs.lines.fill.Tie as tie
 
 abbrev Inv-loop : tie.InvT-loop
-Inv-loop chunk from line₀ len₀ at₀ line len at = Held 81 0 line len (take len line) × (filling (take len₀ line₀) from (drop from chunk) ≡ filling (take len line) at (drop at chunk))
+Inv-loop chunk from line₀ len₀ at₀ line len at = Held readerRoom 0 line len (take len line) × (filling (take len₀ line₀) from (drop from chunk) ≡ filling (take len line) at (drop at chunk))
 
 abbrev μ-loop : tie.MeasureT-loop
 μ-loop chunk from line₀ len₀ at₀ line len at = length chunk - at
@@ -42,7 +42,7 @@ module _ (c : tie.Else1 Inv-loop μ-loop) where
       ∙ ap (λ (l : List ℕ). filling l (at-loop .loop .at + 1) (drop (at-loop .loop .at + 1) bytes)) e
 
 module _ (c : tie.Then2 Inv-loop μ-loop) where
-  pushed : Held 81 0 (set (at-loop (c .before) .loop .line) (at-loop (c .before) .loop .len) (byte (c .before))) (at-loop (c .before) .loop .len + 1) (so-far (c .before) ++ byte (c .before) ∷ [])
+  pushed : Held readerRoom 0 (set (at-loop (c .before) .loop .line) (at-loop (c .before) .loop .len) (byte (c .before))) (at-loop (c .before) .loop .len + 1) (so-far (c .before) ++ byte (c .before) ∷ [])
   pushed = held-push (at-loop (c .before) .loop .inv .0) (byte (c .before)) (c .if2 .taken)
 
 loop-holds : tie.Need-loop-holds Inv-loop μ-loop
