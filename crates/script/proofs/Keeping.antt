@@ -2,7 +2,7 @@
 -- Assumes nothing.
 use mathlib.Core.Path.{_≡_, refl, sym}
 use mathlib.Core.List.{[], _∷_}
-use Prim.Native.Nat.{_+_, _≤_, _<_}
+use Prim.Native.Nat.{ℕ, _+_, _≤_, _<_}
 use borrow.Author.Tests.{lt-ltb, le-ltb}
 use denote.Enum.Declared.{tagOf}
 use lib.ListN.{set}
@@ -13,14 +13,14 @@ use Rattle.planner.proofs.Kept.{keeping-more}
 use Rattle.script.specs.declared.Command.the-variants as command
 use Rattle.script.specs.declared.Ask.{Ask}
 use Rattle.script.specs.declared.Ask.the-variants.{Keep, FirstFit, Rows, Unreadable}
-use Rattle.script.specs.Sessions.{keptAfter}
+use Rattle.script.specs.Outcomes.{keptAfter}
 use Rattle.script.proofs.Ask.{the-type}
 
 module _ (jobs : Jobs) where
   -- a job stands behind the others where there is room, and else nothing changes
-  pub kept-more : {ask : Ask} (job : Job) → ask ≡ Keep job → jobs .count < 32
-      → record { list = set (jobs .list) (jobs .count) job; count = jobs .count + 1 } ≡ keptAfter jobs (command.Ask ask)
-  kept-more job e room = rw (e, lt-ltb _ _ room) (sym (keeping-more jobs job room))
+  pub kept-more : {ask : Ask} {count : ℕ} (job : Job) → ask ≡ Keep job → jobs .count < 32 → count ≡ jobs .count + 1
+      → record { list = set (jobs .list) (jobs .count) job; count = count } ≡ keptAfter jobs (command.Ask ask)
+  kept-more job e room more = rw (e, lt-ltb _ _ room, more) (sym (keeping-more jobs job room))
 
   pub kept-full : {ask : Ask} (job : Job) → ask ≡ Keep job → 32 ≤ jobs .count → jobs ≡ keptAfter jobs (command.Ask ask)
   kept-full job e full = rw (e, le-ltb _ _ full)

@@ -9,7 +9,7 @@ use borrow.Author.Tests.{lt-ltb, le-ltb}
 use lib.IntN.{ℤ}
 use lib.ListN.{length, set, length-append, length-set}
 use lib.Seq.{set-out, set-append-seam}
-use Rattle.script.specs.Pages.{laid, Page, pageOf, put, puts}
+use Rattle.script.specs.Pages.{overlaid, Page, pageOf, put, puts}
 
 -- a number is stored where there is room, and else nothing changes
 pub put-room : (l : List ℤ) (n : ℕ) (x : ℤ) → n < length l → put (pageOf l n) x ≡ pageOf (set l n x) (n + 1)
@@ -37,21 +37,21 @@ puts-long p [] = refl
 puts-long p (x ∷ xs) = puts-long (put p x) xs ∙ length-set (p .places) (p .written) x
 
 -- nothing is laid over no places
-laid-none : (xs : List ℤ) → laid xs [] ≡ []
-unfolding laid
-laid-none [] = refl
-laid-none (x ∷ xs) = refl
+overlaid-none : (xs : List ℤ) → overlaid xs [] ≡ []
+unfolding overlaid
+overlaid-none [] = refl
+overlaid-none (x ∷ xs) = refl
 
 -- behind numbers that are written, the others are laid over what follows
-behind : (done out old : List ℤ) → puts (pageOf (done ++ old) (length done)) out ≡ pageOf (done ++ laid out old) (length done + min (length out) (length old))
-unfolding puts laid
+behind : (done out old : List ℤ) → puts (pageOf (done ++ old) (length done)) out ≡ pageOf (done ++ overlaid out old) (length done + min (length out) (length old))
+unfolding puts overlaid
 behind done [] old = λ i. pageOf (done ++ old) (same i)
   where
     same : length done ≡ length done + min 0 (length old)
     same = omega arith
 behind done (x ∷ xs) [] =
     rw (put-full (done ++ []) (length done) x (rw (length-append done []) (omega arith)))
-    (behind done xs [] ∙ (λ i. pageOf (done ++ laid-none xs i) (same i)))
+    (behind done xs [] ∙ (λ i. pageOf (done ++ overlaid-none xs i) (same i)))
   where
     same : length done + min (length xs) 0 ≡ length done + min (length (x ∷ xs)) 0
     same = omega arith
@@ -59,7 +59,7 @@ behind done (x ∷ xs) (y ∷ old) =
     rw (put-room (done ++ y ∷ old) (length done) x (rw (length-append done (y ∷ old)) (omega arith)), set-append-seam done y old x)
     ((λ i. puts (pageOf (sym (append-assoc done (x ∷ []) old) i) (longer i)) xs)
     ∙ behind (done ++ x ∷ []) xs old
-    ∙ (λ i. pageOf (append-assoc done (x ∷ []) (laid xs old) i) (same i)))
+    ∙ (λ i. pageOf (append-assoc done (x ∷ []) (overlaid xs old) i) (same i)))
   where
     longer : length done + 1 ≡ length (done ++ x ∷ [])
     longer = rw (length-append done (x ∷ [])) (omega arith)
@@ -68,8 +68,8 @@ behind done (x ∷ xs) (y ∷ old) =
     same = rw (length-append done (x ∷ [])) (omega arith)
 
 -- all that is written lies over the first places
-pub puts-laid : (out old : List ℤ) → puts (pageOf old 0) out ≡ pageOf (laid out old) (min (length out) (length old))
-puts-laid out old = behind [] out old ∙ (λ i. pageOf (laid out old) (same i))
+pub puts-overlaid : (out old : List ℤ) → puts (pageOf old 0) out ≡ pageOf (overlaid out old) (min (length out) (length old))
+puts-overlaid out old = behind [] out old ∙ (λ i. pageOf (overlaid out old) (same i))
   where
     same : 0 + min (length out) (length old) ≡ min (length out) (length old)
     same = omega arith

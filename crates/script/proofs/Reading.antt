@@ -13,7 +13,7 @@ use lib.ListN.{length, drop, length-drop}
 use lib.Seq.{getD-drop}
 use lib.Signed.{ltZ, nonNeg}
 use lib.Dec.{T}
-use Rattle.script.specs.Commands.{kindOf, commandWith, numberAt, commandOf}
+use Rattle.script.specs.Commands.{kindOf, commandOfKind, numberAt, commandAt}
 
 -- a negative number is no kind, and any other is its own
 pub kind-negative : (z : ℤ) → ltZ z (pos 0) ≡ true → 0 ≡ kindOf z
@@ -25,6 +25,6 @@ kind-amount (pos n) e = (tt, refl)
 kind-amount (negsuc n) e = absurd (true≢false e)
 
 pub command-read : (s : List ℤ) (at : ℕ)
-    → commandOf (drop at s) ≡ commandWith (kindOf (numberAt s at)) (length s - at) (numberAt s (at + 1)) (numberAt s (at + 2)) (numberAt s (at + 3)) (numberAt s (at + 4))
-unfolding commandOf
+    → commandAt (drop at s) ≡ commandOfKind (kindOf (numberAt s at)) (length s - at) (numberAt s (at + 1)) (numberAt s (at + 2)) (numberAt s (at + 3)) (numberAt s (at + 4))
+unfolding commandAt
 command-read s at = simp (getD-drop, length-drop, add-zero)

@@ -15,12 +15,12 @@ use Rattle.planner.specs.declared.Jobs.{Jobs}
 use Rattle.planner.specs.declared.Plan.{Plan}
 use Rattle.planner.specs.Sound.{Sound}
 use Rattle.script.specs.declared.Command.{Command}
-use Rattle.script.specs.declared.Command.the-variants.{Call, Ask}
-use Rattle.script.specs.declared.Call.the-variants.{Load, Update}
+use Rattle.script.specs.declared.Command.the-variants.{Change, Ask}
+use Rattle.script.specs.declared.Change.the-variants.{Load, Update}
 use Rattle.script.specs.declared.Ask.the-variants.{Keep, FirstFit, Rows, Unreadable}
-use Rattle.script.specs.Commands.{commandWith, commandOf, argumentsOf}
+use Rattle.script.specs.Commands.{commandOfKind, commandAt, argumentsOf}
 use Rattle.script.specs.Pages.{Page, puts}
-use Rattle.script.specs.Sessions.{keptAfter, planAfter, said}
+use Rattle.script.specs.Outcomes.{keptAfter, planAfterCommand, said}
 use Rattle.script.specs.Runs.{answersOf}
 use Rattle.script.proofs.Pages.{puts-append}
 
@@ -30,7 +30,7 @@ pub record Answered (page next : Page) (plan plan' : Plan) (jobs jobs' : Jobs) (
   pub is : c ≡ found
   pub again : c' ≡ found
   pub wrote : next ≡ puts page (said plan jobs found)
-  pub led : plan' ≡ planAfter plan jobs found
+  pub led : plan' ≡ planAfterCommand plan jobs found
   pub keeps : jobs' ≡ keptAfter jobs found
   pub sound : Sound plan'
 
@@ -55,11 +55,11 @@ module _ (script : List ℤ) (at : ℕ) (inside : at < length script) where
 
   -- the answer to the command c, and then what follows its numbers
   abbrev split : Plan → Jobs → Command → List ℤ
-  split plan jobs c = said plan jobs c ++ answersOf (planAfter plan jobs c) (keptAfter jobs c) (argumentsOf c (length rest)) rest
+  split plan jobs c = said plan jobs c ++ answersOf (planAfterCommand plan jobs c) (keptAfter jobs c) (argumentsOf c (length rest)) rest
 
-  first : (plan : Plan) (jobs : Jobs) → answersOf plan jobs 0 (drop at script) ≡ split plan jobs (commandOf (drop at script))
+  first : (plan : Plan) (jobs : Jobs) → answersOf plan jobs 0 (drop at script) ≡ split plan jobs (commandAt (drop at script))
   unfolding answersOf
-  first plan jobs = subst (λ (l : List ℤ). answersOf plan jobs 0 l ≡ split plan jobs (commandOf l)) (sym starts) refl
+  first plan jobs = subst (λ (l : List ℤ). answersOf plan jobs 0 l ≡ split plan jobs (commandAt l)) (sym starts) refl
 
   after : (plan : Plan) (jobs : Jobs) (c : Command) (n : ℕ) → n ≡ argumentsOf c (length script - at - 1)
       → answersOf plan jobs (argumentsOf c (length rest)) rest ≡ answersOf plan jobs 0 (drop (at + 1 + n) script)
@@ -70,7 +70,7 @@ module _ (script : List ℤ) (at : ℕ) (inside : at < length script) where
 
   -- the command there is answered, and what is left is what follows its numbers
   pub step : (page : Page) {next : Page} (plan : Plan) {plan' : Plan} (jobs : Jobs) {jobs' : Jobs} {c c' : Command} {n : ℕ}
-      → c ≡ commandOf (drop at script)
+      → c ≡ commandAt (drop at script)
       → Answered page next plan plan' jobs jobs' c c'
       → n ≡ argumentsOf c' (length script - at - 1)
       → puts page (answersOf plan jobs 0 (drop at script)) ≡ puts next (answersOf plan' jobs' 0 (drop (at + 1 + n) script))
@@ -92,19 +92,19 @@ whole kind wanted numbers most c d few other =
     picked (eqb kind wanted && leb numbers (most + 1)) c d most
     (λ e. omega (arith, leb-true numbers (most + 1) (both (eqb kind wanted) (leb numbers (most + 1)) e .1))) other
 
-takes : (kind most : ℕ) (a b c d : ℤ) → argumentsOf (commandWith kind (most + 1) a b c d) most ≤ most
-unfolding commandWith
+takes : (kind most : ℕ) (a b c d : ℤ) → argumentsOf (commandOfKind kind (most + 1) a b c d) most ≤ most
+unfolding commandOfKind
 takes kind most a b c d =
     whole kind 1 5 most (Ask (Keep (record { earliest = a; latest = b; duration = c; usage = d }))) _ (omega arith)
-    (whole kind 2 2 most (Call (Load a)) _ (omega arith)
-    (whole kind 3 4 most (Call (Update a b c)) _ (omega arith)
+    (whole kind 2 2 most (Change (Load a)) _ (omega arith)
+    (whole kind 3 4 most (Change (Update a b c)) _ (omega arith)
     (whole kind 4 2 most (Ask (FirstFit a)) _ (omega arith)
     (whole kind 5 1 most (Ask Rows) (Ask Unreadable) (omega arith) (omega arith)))))
 
-pub stays : (script : List ℤ) (at : ℕ) → at < length script → at + 1 + argumentsOf (commandOf (drop at script)) (length script - at - 1) ≤ length script
-unfolding commandOf
+pub stays : (script : List ℤ) (at : ℕ) → at < length script → at + 1 + argumentsOf (commandAt (drop at script)) (length script - at - 1) ≤ length script
+unfolding commandAt
 stays script at inside =
     let n = length script - at - 1 in
     let long : length (drop at script) ≡ n + 1 = rw (length-drop at script) (omega arith) in
-    let few : argumentsOf (commandOf (drop at script)) n ≤ n = rw long (takes _ n _ _ _ _) in
+    let few : argumentsOf (commandAt (drop at script)) n ≤ n = rw long (takes _ n _ _ _ _) in
     omega arith

@@ -1,6 +1,6 @@
 pub mod Commands
 pub mod Pages
-pub mod Numbers
-pub mod Sessions
+pub mod AnswerNumbers
+pub mod Outcomes
 pub mod Runs
 pub mod Unique

@@ -7,10 +7,10 @@ use lib.IntN.{ℤ}
 use lib.ListN.{length, set}
 
 -- the first numbers of a list in the first places of another, as far as it has places
-unfoldable pub laid : List ℤ → List ℤ → List ℤ
-laid [] old = old
-laid (x ∷ xs) [] = []
-laid (x ∷ xs) (y ∷ old) = x ∷ laid xs old
+unfoldable pub overlaid : List ℤ → List ℤ → List ℤ
+overlaid [] old = old
+overlaid (x ∷ xs) [] = []
+overlaid (x ∷ xs) (y ∷ old) = x ∷ overlaid xs old
 
 -- the same number by number: the places, and how many of them are written
 pub record Page : Type 0 where

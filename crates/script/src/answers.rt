@@ -5,7 +5,7 @@ ghost use Prim.Native.Nat.{_≤_};
 ghost use lib.ListN.{take};
 ghost use Rattle.planner.specs.Sound.{Sound};
 ghost use Rattle.planner.specs.Questions.{rowsShown};
-ghost use Rattle.script.specs.Numbers.{signedOf, refusalNumbers, rowNumbers, each, rowsNumbers, answerNumbers, fitNumbers, keepNumbers, askNumbers};
+ghost use Rattle.script.specs.AnswerNumbers.{capped, refusalNumbers, rowNumbers, each, rowsNumbers, answerNumbers, fitNumbers, keepNumbers, askNumbers};
 ghost use Rattle.planner.specs.Shown.{Shown};
 ghost use Rattle.script.specs.Pages.{pageOf, put, puts};
 use crate::Ask;
@@ -19,7 +19,7 @@ use planner::Rows;
 
 // An amount as an i32; 2147483647 stands for anything greater.
 fn signed(amount: u64) -> i32
-    ensures { λ r. ⌜ r ≡ signedOf amount ⌝ }
+    ensures { λ r. ⌜ r ≡ capped amount ⌝ }
 {
     if amount < 2147483647 {
         return amount as i32;
@@ -57,7 +57,7 @@ fn put_four(answers: &mut [i32], written: usize, a: i32, b: i32, c: i32, d: i32)
 // Writes the first ids of a row.
 fn put_ids(answers: &mut [i32], written: usize, ids: [u8; 32], count: usize) -> usize
     requires { ⌜ count ≤ 32 ⌝ }
-    ensures { λ r. ⌜ pageOf (now (answers .exit)) r ≡ puts (pageOf (now (answers .entry)) written) (map signedOf (take count ids)) ⌝ }
+    ensures { λ r. ⌜ pageOf (now (answers .exit)) r ≡ puts (pageOf (now (answers .entry)) written) (map capped (take count ids)) ⌝ }
 {
     let mut next = written;
     let mut i = 0;

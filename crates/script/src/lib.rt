@@ -1,20 +1,20 @@
 // The pass planner for programs in other languages: a script of commands, given as numbers in a lent
 // slice, is run on a fresh plan, and the answers are written as numbers to another.
 mod answers;
-mod commands;
+mod parse;
 mod session;
 
 ghost use mathlib.Core.Path.{_≡_};
 ghost use lib.ListN.{length};
 ghost use Prim.Native.Nat.{min};
 ghost use Rattle.script.specs.Runs.{run};
-ghost use Rattle.script.specs.Pages.{laid};
+ghost use Rattle.script.specs.Pages.{overlaid};
 use planner::Job;
 use planner::Jobs;
 use planner::Plan;
 
 // A command that may change the plan.
-pub enum Call {
+pub enum Change {
     Load(i32),
     Update(i32, i32, i32),
 }
@@ -29,7 +29,7 @@ pub enum Ask {
 
 // One command of a script.
 pub enum Command {
-    Call(Call),
+    Change(Change),
     Ask(Ask),
 }
 
@@ -37,7 +37,7 @@ pub enum Command {
 // numbers were written.
 #[no_mangle]
 pub extern "C" fn pass_planner_run(script: &[i32], answers: &mut [i32]) -> usize
-    ensures { λ r. ⌜ now (answers .exit) ≡ laid (run (now (script .entry))) (now (answers .entry)) ⌝ }
+    ensures { λ r. ⌜ now (answers .exit) ≡ overlaid (run (now (script .entry))) (now (answers .entry)) ⌝ }
     ensures { λ r. ⌜ r ≡ min (length (run (now (script .entry)))) (length (now (answers .entry))) ⌝ }
 {
     let mut state = session::begun();
@@ -45,16 +45,16 @@ pub extern "C" fn pass_planner_run(script: &[i32], answers: &mut [i32]) -> usize
     let mut written = 0;
     let mut at = 0;
     while at < script.len() {
-        let command = commands::command_at(script, at);
+        let command = parse::command_at(script, at);
         match command {
-            Command::Call(call) => match call {
-                Call::Load(capacity) => {
+            Command::Change(call) => match call {
+                Change::Load(capacity) => {
                     state = session::load(state.plan, jobs, capacity);
                     jobs = Jobs::empty();
                     let answer = state.answer;
                     written = answers::put_answer(answers, written, answer, state.row);
                 }
-                Call::Update(id, earliest, latest) => {
+                Change::Update(id, earliest, latest) => {
                     state = state.plan.update(id, earliest, latest);
                     let answer = state.answer;
                     written = answers::put_answer(answers, written, answer, state.row);
@@ -71,7 +71,7 @@ pub extern "C" fn pass_planner_run(script: &[i32], answers: &mut [i32]) -> usize
                 }
             }
         }
-        at = at + 1 + commands::arguments_of(command, script.len() - at - 1);
+        at = at + 1 + parse::arguments_of(command, script.len() - at - 1);
     }
     written
 }

@@ -3,7 +3,7 @@ ghost use mathlib.Core.Path.{_≡_};
 ghost use Rattle.planner.specs.Sound.{Sound};
 ghost use Rattle.planner.specs.History.{withoutPlaces};
 ghost use Rattle.planner.specs.Loads.{loaded};
-ghost use Rattle.script.specs.Sessions.{begun};
+ghost use Rattle.script.specs.Outcomes.{begun};
 use planner::Answer;
 use planner::Jobs;
 use planner::Plan;

@@ -13,14 +13,14 @@ use Rattle.planner.specs.History.{withoutPlaces}
 use Rattle.planner.specs.Loads.{loaded}
 use Rattle.planner.specs.Updates.{updated}
 use Rattle.planner.specs.Sound.{Sound}
-use Rattle.script.specs.declared.Command.the-variants.{Call, Ask}
+use Rattle.script.specs.declared.Command.the-variants.{Change, Ask}
 use Rattle.script.specs.declared.Ask as ask
-use Rattle.script.specs.declared.Call.the-variants.{Load, Update}
-use Rattle.script.specs.Numbers.{answerNumbers, askNumbers}
+use Rattle.script.specs.declared.Change.the-variants.{Load, Update}
+use Rattle.script.specs.AnswerNumbers.{answerNumbers, askNumbers}
 use Rattle.script.specs.Pages.{Page, pageOf, puts}
-use Rattle.script.specs.Sessions.{keptAfter, called}
+use Rattle.script.specs.Outcomes.{keptAfter, called}
 use Rattle.script.specs.Runs.{answersOf, run}
-use Rattle.script.proofs.Pages.{puts-long, puts-laid}
+use Rattle.script.proofs.Pages.{puts-long, puts-overlaid}
 use Rattle.script.proofs.Keeping.{kept-more, kept-full, kept-same}
 use Rattle.script.proofs.Running.{Answered, step, stays}
 use borrow.Author.Needs.{needs}
@@ -77,9 +77,9 @@ joined c =
     let led : w .6 .result ≡ called plan jobs (Load z) =
     w .6 .ensures .0 ∙ ap (λ (x : ℤ). withoutPlaces (loaded plan jobs x)) (toZ-ofZ {w = w32} {z = z} (record { sfits = w .5 .given .0 .1 })) in
     record {
-      found = Call (Load z);
-      is = w .1 .given .1 ∙ ap Call (w .4 .given .1);
-      again = w .15 ∙ ap Call (w .4 .given .1);
+      found = Change (Load z);
+      is = w .1 .given .1 ∙ ap Change (w .4 .given .1);
+      again = w .15 ∙ ap Change (w .4 .given .1);
       wrote = (λ i. pageOf (w .11 i) (w .14 i)) ∙ w .9 .ensures ∙ ap (λ (u : Updated). puts page (answerNumbers (u .answer) (u .row))) led;
       led = ap (λ (u : Updated). u .plan) (w .12 ∙ led);
       keeps = w .13 ∙ w .7 .ensures;
@@ -96,16 +96,16 @@ joined c =
     (toZ-ofZ {w = w32} {z = z .1 .0} (record { sfits = w .5 .given .1 .0 .1 }) i)
     (toZ-ofZ {w = w32} {z = z .1 .1 .0} (record { sfits = w .5 .given .1 .1 .0 .1 }) i)) in
     record {
-      found = Call (Update (z .0) (z .1 .0) (z .1 .1 .0));
-      is = w .1 .given .1 ∙ ap Call (w .4 .given .1);
-      again = w .14 ∙ ap Call (w .4 .given .1);
+      found = Change (Update (z .0) (z .1 .0) (z .1 .1 .0));
+      is = w .1 .given .1 ∙ ap Change (w .4 .given .1);
+      again = w .14 ∙ ap Change (w .4 .given .1);
       wrote = (λ i. pageOf (w .10 i) (w .13 i)) ∙ w .8 .ensures ∙ ap (λ (u : Updated). puts page (answerNumbers (u .answer) (u .row))) led;
       led = ap (λ (u : Updated). u .plan) (w .11 ∙ led);
       keeps = w .12;
       sound = subst (λ (u : Updated). Sound (u .plan)) (sym (w .11)) (w .6 .ensures .1);
     })
     (⊎-elim
-    (λ w. asked c (w .1 .given .1) (w .14) (w .11) ((λ i. pageOf (w .10 i) (w .13 i)) ∙ w .4 .ensures) (w .12 ∙ kept-more jobs _ (w .7 .given .1) (w .9 .taken)))
+    (λ w. asked c (w .1 .given .1) (w .14) (w .11) ((λ i. pageOf (w .10 i) (w .13 i)) ∙ w .4 .ensures) (w .12 ∙ kept-more jobs _ (w .7 .given .1) (w .9 .taken) (omega arith)))
     (⊎-elim
     (λ w. asked c (w .1 .given .1) (w .14) (w .11) ((λ i. pageOf (w .10 i) (w .13 i)) ∙ w .4 .ensures) (w .12 ∙ kept-full jobs _ (w .7 .given .1) (w .9 .left)))
     (λ w. asked c (w .1 .given .1) (w .11) (w .8) ((λ i. pageOf (w .7 i) (w .10 i)) ∙ w .4 .ensures) (w .9 ∙ kept-same jobs (w .1 .given .0 .0) (w .6 .keys2))))))
@@ -223,7 +223,7 @@ returns c =
     let page = pageOf (l .loop .answers) (l .loop .written) in
     let done : page ≡ puts (pageOf (a .args .answers .now) 0) (run s) =
     sym (l .loop .inv .2 ∙ ap (λ (x : List ℤ). puts page (answersOf (l .loop .state .plan) (l .loop .jobs) 0 x)) (drop-of-length-le s (c .loop-test .left))) in
-    let all = done ∙ puts-laid (run s) (a .args .answers .now) in
+    let all = done ∙ puts-overlaid (run s) (a .args .answers .now) in
     (ap (λ (p : Page). p .places) all, ap (λ (p : Page). p .written) all)
 
 pub pass-planner-run-spec : {M : Type 1} → statement M

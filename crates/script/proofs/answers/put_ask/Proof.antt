@@ -5,7 +5,7 @@ use mir.Syntax.{w32}
 use mir.Facts.{toZ-ofZ}
 use Rattle.planner.specs.declared.FirstFit.{FirstFit}
 use Rattle.planner.specs.Questions.{fitOf}
-use Rattle.script.specs.Numbers.{fitNumbers}
+use Rattle.script.specs.AnswerNumbers.{fitNumbers}
 use Rattle.script.specs.Pages.{pageOf, puts}
 use borrow.Author.Needs.{needs}
 use Rattle.script.proofs.answers.put_ask.Statement.{statement}

@@ -5,7 +5,7 @@ use Prim.Native.Nat.{_-_, _≤_}
 use lib.ListN.{length, take, getD, length-map}
 use mathlib.Core.List.{flatMap}
 use Rattle.planner.specs.Records.{noRow}
-use Rattle.script.specs.Numbers.{rowNumbers, each}
+use Rattle.script.specs.AnswerNumbers.{rowNumbers, each}
 use Rattle.script.specs.Pages.{Page, pageOf, puts}
 use Rattle.script.proofs.Pages.{puts-append}
 use Rattle.time_table.proofs.Mapped.{flat-take}

@@ -7,7 +7,7 @@ use lib.ListN.{length, take}
 use mir.Syntax.{w32}
 use mir.Facts.{toZ-ofZ}
 use Rattle.time_table.proofs.Mapped.{map-take}
-use Rattle.script.specs.Numbers.{signedOf}
+use Rattle.script.specs.AnswerNumbers.{capped}
 use Rattle.script.specs.Pages.{pageOf, put, puts}
 use Rattle.script.proofs.Pages.{puts-next}
 use borrow.Author.Needs.{needs}
@@ -16,7 +16,7 @@ use Rattle.script.proofs.answers.put_ids.Statement.{statement}
 use Rattle.script.proofs.answers.put_ids.Tie as tie
 
 abbrev Inv-loop : tie.InvT-loop
-Inv-loop answers₀ written count ids next₀ i₀ answers next i = (i ≤ count) × (length answers ≡ length answers₀) × (pageOf answers next ≡ puts (pageOf answers₀ written) (map signedOf (take i ids)))
+Inv-loop answers₀ written count ids next₀ i₀ answers next i = (i ≤ count) × (length answers ≡ length answers₀) × (pageOf answers next ≡ puts (pageOf answers₀ written) (map capped (take i ids)))
 
 abbrev μ-loop : tie.MeasureT-loop
 μ-loop answers₀ written count ids next₀ i₀ answers next i = count - i
@@ -53,8 +53,8 @@ loop-again c =
       c .before .put .kept .0 ∙ l .loop .inv .1,
       c .before .put .ensures
           ∙ ap (put (pageOf (l .loop .answers) (l .loop .next))) (toZ-ofZ {w = w32} {z = s .signed .result} (record { sfits = s .signed .ok }) ∙ s .signed .ensures)
-          ∙ puts-next p (map signedOf (take (l .loop .i) (a .args .t3))) _ (l .loop .inv .2)
-          ∙ ap (puts p) (sym (map-take signedOf (a .args .t3) (l .loop .i) 0 (omega (arith, a .good .1 .1 .0)))),
+          ∙ puts-next p (map capped (take (l .loop .i) (a .args .t3))) _ (l .loop .inv .2)
+          ∙ ap (puts p) (sym (map-take capped (a .args .t3) (l .loop .i) 0 (omega (arith, a .good .1 .1 .0)))),
     )
 
 same-length : tie.Need-same-length Inv-loop μ-loop

@@ -2,7 +2,7 @@
 -- Assumes nothing.
 use mathlib.Core.Path.{refl}
 use borrow.Author.Tests.{lt-ltb, le-ltb}
-use Rattle.script.specs.Numbers.{keepNumbers}
+use Rattle.script.specs.AnswerNumbers.{keepNumbers}
 use Rattle.script.specs.Pages.{puts}
 use borrow.Author.Needs.{needs}
 use Rattle.script.proofs.answers.put_kept.Statement.{statement}

@@ -5,7 +5,7 @@ use mathlib.Core.List.{_∷_, map}
 use lib.ListN.{take}
 use mir.Syntax.{w32}
 use mir.Facts.{toZ-ofZ}
-use Rattle.script.specs.Numbers.{signedOf}
+use Rattle.script.specs.AnswerNumbers.{capped}
 use Rattle.script.specs.Pages.{Page, pageOf, puts}
 use borrow.Author.Needs.{needs}
 use Rattle.script.proofs.answers.put_row.Statement.{statement}
@@ -39,7 +39,7 @@ returns c =
     let h = n .before in
     let a = h .before .before in
     let row = a .args .row in
-    let ids = map signedOf (take (row .count) (row .ids)) in
+    let ids = map capped (take (row .count) (row .ids)) in
     c .before .put-ids .ensures
     ∙ ap (λ (p : Page). puts p ids) (f .put-four .ensures)
     ∙ (λ i.

@@ -4,9 +4,10 @@ use mathlib.Core.Path.{sym, ap, _∙_}
 use mathlib.Core.List.{_∷_}
 use lib.IntN.{pos}
 use lib.ListN.{take}
+use native.Mathlib.Omega.{arith}
 use mir.Syntax.{w32}
 use mir.Facts.{toZ-ofZ}
-use Rattle.script.specs.Numbers.{each}
+use Rattle.script.specs.AnswerNumbers.{capped, each}
 use Rattle.script.specs.Pages.{Page, pageOf, puts}
 use Rattle.planner.proofs.ShownRows.{shown-rows}
 use borrow.Author.Needs.{needs}
@@ -56,10 +57,11 @@ returns-2 c =
     let m = k .before .before in
     let a = m .before in
     let rows = each (take (m .rows .result .count) (m .rows .result .rows)) in
+    let count = s .signed .ensures ∙ ap capped {y = m .rows .result .count} (omega arith) in
     rw (sym (m .rows .ensures), k .enum-told .given .1)
     (c .before .put-each .ensures
     ∙ ap (λ (p : Page). puts p rows) (t .put-two .ensures)
-    ∙ (λ i. puts (pageOf (a .args .answers .now) (a .args .written)) (pos 5 ∷ (toZ-ofZ {w = w32} {z = s .signed .result} (record { sfits = s .signed .ok }) ∙ s .signed .ensures) i ∷ rows)))
+    ∙ (λ i. puts (pageOf (a .args .answers .now) (a .args .written)) (pos 5 ∷ (toZ-ofZ {w = w32} {z = s .signed .result} (record { sfits = s .signed .ok }) ∙ count) i ∷ rows)))
 
 pub put-rows-spec : {M : Type 1} → statement M
 put-rows-spec =

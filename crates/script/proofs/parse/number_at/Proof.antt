@@ -4,8 +4,8 @@ use mathlib.Core.Path.{sym}
 use lib.IntN.{pos}
 use lib.ListN.{List·getD-eq-default}
 use borrow.Author.Needs.{needs}
-use Rattle.script.proofs.commands.number_at.Statement.{statement}
-use Rattle.script.proofs.commands.number_at.Tie as tie
+use Rattle.script.proofs.parse.number_at.Statement.{statement}
+use Rattle.script.proofs.parse.number_at.Tie as tie
 
 mul-result : tie.Need-mul-result
 mul-result c = search needs

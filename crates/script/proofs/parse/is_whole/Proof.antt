@@ -1,8 +1,8 @@
 -- `is_whole` meets its contract: both tests, one after the other.
 -- Assumes nothing.
 use borrow.Author.Tests.{eq-eqb, ne-eqb}
-use Rattle.script.proofs.commands.is_whole.Statement.{statement}
-use Rattle.script.proofs.commands.is_whole.Tie as tie
+use Rattle.script.proofs.parse.is_whole.Statement.{statement}
+use Rattle.script.proofs.parse.is_whole.Tie as tie
 
 returns : tie.Need-returns
 returns c = rw (eq-eqb _ _ (c .if1 .taken))

@@ -5,9 +5,9 @@ ghost use Prim.Native.Nat.{_<_};
 ghost use lib.Dec.{eqb, leb};
 ghost use lib.IntN.{pos};
 ghost use lib.ListN.{length, getD, drop};
-ghost use Rattle.script.specs.Commands.{kindOf, commandWith, commandOf, argumentsOf};
+ghost use Rattle.script.specs.Commands.{kindOf, commandOfKind, commandAt, argumentsOf};
 use crate::Ask;
-use crate::Call;
+use crate::Change;
 use crate::Command;
 use planner::Job;
 
@@ -44,7 +44,7 @@ fn is_whole(kind: u32, left: usize, wanted: u32, numbers: usize) -> bool
 // The command of a kind, with the numbers behind the kind. `left`: how many numbers the script has from
 // the kind on, the kind included.
 fn command_of(kind: u32, left: usize, a: i32, b: i32, c: i32, d: i32) -> Command
-    ensures { λ r. ⌜ r ≡ commandWith kind left a b c d ⌝ }
+    ensures { λ r. ⌜ r ≡ commandOfKind kind left a b c d ⌝ }
 {
     if is_whole(kind, left, 1, 5) {
         return Command::Ask(Ask::Keep(Job {
@@ -55,10 +55,10 @@ fn command_of(kind: u32, left: usize, a: i32, b: i32, c: i32, d: i32) -> Command
         }));
     }
     if is_whole(kind, left, 2, 2) {
-        return Command::Call(Call::Load(a));
+        return Command::Change(Change::Load(a));
     }
     if is_whole(kind, left, 3, 4) {
-        return Command::Call(Call::Update(a, b, c));
+        return Command::Change(Change::Update(a, b, c));
     }
     if is_whole(kind, left, 4, 2) {
         return Command::Ask(Ask::FirstFit(a));
@@ -72,7 +72,7 @@ fn command_of(kind: u32, left: usize, a: i32, b: i32, c: i32, d: i32) -> Command
 // The command that starts at a place of a script.
 pub(crate) fn command_at(script: &[i32], at: usize) -> Command
     requires { ⌜ at < length (now script) ⌝ }
-    ensures { λ r. ⌜ r ≡ commandOf (drop at (now (script .entry))) ⌝ }
+    ensures { λ r. ⌜ r ≡ commandAt (drop at (now (script .entry))) ⌝ }
 {
     command_of(
         kind_of(number_at(script, at)),
@@ -89,9 +89,9 @@ pub(crate) fn arguments_of(command: Command, rest: usize) -> usize
     ensures { λ r. ⌜ r ≡ argumentsOf command rest ⌝ }
 {
     match command {
-        Command::Call(call) => match call {
-            Call::Load(_) => 1,
-            Call::Update(_, _, _) => 3,
+        Command::Change(call) => match call {
+            Change::Load(_) => 1,
+            Change::Update(_, _, _) => 3,
         },
         Command::Ask(ask) => match ask {
             Ask::Keep(_) => 4,

@@ -2,19 +2,19 @@
 -- Assumes nothing.
 use mathlib.Core.Path.{sym, _∙_}
 use mir.Facts.{toZ-ofZ}
-use Rattle.script.specs.declared.Command.the-variants.{Call, Ask}
-use Rattle.script.specs.declared.Call.the-variants.{Load, Update}
+use Rattle.script.specs.declared.Command.the-variants.{Change, Ask}
+use Rattle.script.specs.declared.Change.the-variants.{Load, Update}
 use Rattle.script.specs.declared.Ask.the-variants.{Keep, FirstFit}
-use Rattle.script.specs.Commands.{commandWith}
+use Rattle.script.specs.Commands.{commandOfKind}
 use borrow.Author.Needs.{needs}
-use Rattle.script.proofs.commands.command_of.Statement.{statement}
-use Rattle.script.proofs.commands.command_of.Tie as tie
+use Rattle.script.proofs.parse.command_of.Statement.{statement}
+use Rattle.script.proofs.parse.command_of.Tie as tie
 
 is-whole-requires : tie.Need-is-whole-requires
 is-whole-requires c κs = search needs
 
 returns : tie.Need-returns
-unfolding commandWith
+unfolding commandOfKind
 returns c =
     let a = c .before .before in
     rw (sym (c .before .is-whole .ensures) ∙ c .if1 .taken)
@@ -24,29 +24,29 @@ is-whole-requires-2 : tie.Need-is-whole-requires-2
 is-whole-requires-2 c κs = search needs
 
 returns-2 : tie.Need-returns-2
-unfolding commandWith
+unfolding commandOfKind
 returns-2 c =
     let k = c .before .before in
     rw (sym (k .before .is-whole .ensures) ∙ k .if1 .left, sym (c .before .is-whole2 .ensures) ∙ c .if2 .taken)
-    (λ i. Call (Load (toZ-ofZ (k .before .before .fits .a) i)))
+    (λ i. Change (Load (toZ-ofZ (k .before .before .fits .a) i)))
 
 is-whole-requires-3 : tie.Need-is-whole-requires-3
 is-whole-requires-3 c κs = search needs
 
 returns-3 : tie.Need-returns-3
-unfolding commandWith
+unfolding commandOfKind
 returns-3 c =
     let l = c .before .before in
     let k = l .before .before in
     let a = k .before .before in
     rw (sym (k .before .is-whole .ensures) ∙ k .if1 .left, sym (l .before .is-whole2 .ensures) ∙ l .if2 .left, sym (c .before .is-whole3 .ensures) ∙ c .if3 .taken)
-    (λ i. Call (Update (toZ-ofZ (a .fits .a) i) (toZ-ofZ (a .fits .b) i) (toZ-ofZ (a .fits .c) i)))
+    (λ i. Change (Update (toZ-ofZ (a .fits .a) i) (toZ-ofZ (a .fits .b) i) (toZ-ofZ (a .fits .c) i)))
 
 is-whole-requires-4 : tie.Need-is-whole-requires-4
 is-whole-requires-4 c κs = search needs
 
 returns-4 : tie.Need-returns-4
-unfolding commandWith
+unfolding commandOfKind
 returns-4 c =
     let m = c .before .before in
     let l = m .before .before in
@@ -58,7 +58,7 @@ is-whole-requires-5 : tie.Need-is-whole-requires-5
 is-whole-requires-5 c κs = search needs
 
 returns-5 : tie.Need-returns-5
-unfolding commandWith
+unfolding commandOfKind
 returns-5 c =
     let n = c .before .before in
     let m = n .before .before in
@@ -67,7 +67,7 @@ returns-5 c =
     rw (sym (k .before .is-whole .ensures) ∙ k .if1 .left, sym (l .before .is-whole2 .ensures) ∙ l .if2 .left, sym (m .before .is-whole3 .ensures) ∙ m .if3 .left, sym (n .before .is-whole4 .ensures) ∙ n .if4 .left, sym (c .before .is-whole5 .ensures) ∙ c .if5 .taken)
 
 returns-6 : tie.Need-returns-6
-unfolding commandWith
+unfolding commandOfKind
 returns-6 c =
     let n = c .before .before in
     let m = n .before .before in

@@ -20,8 +20,8 @@ use Rattle.script.specs.declared.Ask.{Ask}
 use Rattle.script.specs.declared.Ask.the-variants.{Keep, FirstFit, Rows, Unreadable}
 
 -- an amount, at most the greatest signed number of 32 bits
-unfoldable pub signedOf : ℕ → ℤ
-signedOf n = pos (min n 2147483647)
+unfoldable pub capped : ℕ → ℤ
+capped n = pos (min n 2147483647)
 
 -- a refusal
 abbrev pub refusalNumbers : Refusal → List ℤ
@@ -29,7 +29,7 @@ refusalNumbers why = pos 2 ∷ pos (numberOf why) ∷ []
 
 -- a row
 abbrev pub rowNumbers : RowRecord → List ℤ
-rowNumbers r = r .start ∷ r .end ∷ signedOf (r .height) ∷ signedOf (r .count) ∷ map signedOf (take (r .count) (r .ids))
+rowNumbers r = r .start ∷ r .end ∷ capped (r .height) ∷ capped (r .count) ∷ map capped (take (r .count) (r .ids))
 
 -- the numbers of one row after those of another
 abbrev pub each : List RowRecord → List ℤ
@@ -37,7 +37,7 @@ each rows = flatMap rowNumbers rows
 
 -- the rows, or why they are refused
 abbrev pub shownNumbers : Checked → ℕ → List RowRecord → List ℤ
-shownNumbers Checked.Accepted n rows = pos 5 ∷ signedOf n ∷ each rows
+shownNumbers Checked.Accepted n rows = pos 5 ∷ capped n ∷ each rows
 shownNumbers (Checked.Refused why) n rows = refusalNumbers why
 
 abbrev pub rowsNumbers : planner.Rows → List ℤ
@@ -46,7 +46,7 @@ rowsNumbers shown = shownNumbers (shown .answer) (shown .count) (take (shown .co
 -- the answer of a load or an update
 abbrev pub answerNumbers : answer.Answer → RowRecord → List ℤ
 answerNumbers answer.Answer.Fits row = pos 0 ∷ []
-answerNumbers answer.Answer.Overloaded row = pos 1 ∷ row .start ∷ row .end ∷ signedOf (row .height) ∷ []
+answerNumbers answer.Answer.Overloaded row = pos 1 ∷ row .start ∷ row .end ∷ capped (row .height) ∷ []
 answerNumbers (answer.Answer.Refused why) row = refusalNumbers why
 
 -- the answer of a question for the first fit

@@ -5,11 +5,11 @@ use Prim.Native.Nat.{_-_}
 use lib.ListN.{length}
 use mir.Syntax.{w32}
 use mir.Facts.{toZ-ofZ}
-use Rattle.script.specs.Commands.{kindOf, commandWith}
+use Rattle.script.specs.Commands.{kindOf, commandOfKind}
 use Rattle.script.proofs.Reading.{command-read}
 use borrow.Author.Needs.{needs}
-use Rattle.script.proofs.commands.command_at.Statement.{statement}
-use Rattle.script.proofs.commands.command_at.Tie as tie
+use Rattle.script.proofs.parse.command_at.Statement.{statement}
+use Rattle.script.proofs.parse.command_at.Tie as tie
 
 number-at-requires : tie.Need-number-at-requires
 number-at-requires c κs = search needs
@@ -58,7 +58,7 @@ returns c =
     let a = n1 .before in
     c .command-of .ensures
     ∙ (λ i.
-    commandWith
+    commandOfKind
     ((k .kind-of .ensures ∙ ap kindOf (toZ-ofZ {w = w32} {z = n1 .number-at .result} (record { sfits = n1 .number-at .ok }) ∙ n1 .number-at .ensures)) i)
     (length (a .args .script .now) - a .args .at)
     ((toZ-ofZ {w = w32} {z = n2 .number-at2 .result} (record { sfits = n2 .number-at2 .ok }) ∙ n2 .number-at2 .ensures) i)

@@ -4,8 +4,8 @@ use mathlib.Core.Path.{_∙_, ap}
 use lib.IntN.{natAbs}
 use mir.Facts.{toZ-ofZ, fits-natAbs}
 use Rattle.script.proofs.Reading.{kind-negative, kind-amount}
-use Rattle.script.proofs.commands.kind_of.Statement.{statement}
-use Rattle.script.proofs.commands.kind_of.Tie as tie
+use Rattle.script.proofs.parse.kind_of.Statement.{statement}
+use Rattle.script.proofs.parse.kind_of.Tie as tie
 
 returns : tie.Need-returns
 returns c = kind-negative (c .before .args .x) (rw (toZ-ofZ (c .before .fits .x)) at (c .if1 .taken))
