@@ -71,7 +71,7 @@ loop-again c =
     let b = s .before .before .before .before .before .before in
     let l = b .before .before in
     let high = ltb-true (l .before .before .before .before .args .capacity) _ (sym (b .blocks2 .ensures) ∙ s .before .before .before .before .before .if2 .taken) in
-    pass-moves (l .before .loop .inv) (l .loop-test .taken) (s .if4 .left) (c .before .if5 .taken) high
+    pass-moves (l .before .loop .inv) (l .loop-test .taken) _ (omega arith) (s .if4 .left) (c .before .if5 .taken) high
 
 loop-less-2 : tie.Need-loop-less-2 Inv-loop μ-loop
 loop-less-2 c = omega arith

@@ -66,6 +66,6 @@ module _ {asked : Asked} {capacity : ℕ} {t : Table} {start at : ℕ} (p : Pass
     pub pass-after : rowAt (t .rows) at .end < start → Passing asked capacity t start (at + 1)
     pass-after h = rw (moved-after asked capacity start (rowAt (t .rows) at) h) at passed
 
-    pub pass-moves : rowAt (t .rows) at .start < start + asked .run → start ≤ rowAt (t .rows) at .end → capacity < seen asked (rowAt (t .rows) at) + asked .usage
-        → Passing asked capacity t (rowAt (t .rows) at .end + 1) (at + 1)
-    pass-moves l h high = rw (moved-behind asked capacity start (rowAt (t .rows) at) l h high) at passed
+    pub pass-moves : (next : ℕ) → next ≡ rowAt (t .rows) at .end + 1 → rowAt (t .rows) at .start < start + asked .run → start ≤ rowAt (t .rows) at .end
+        → capacity < seen asked (rowAt (t .rows) at) + asked .usage → Passing asked capacity t next (at + 1)
+    pass-moves next e l h high = rw e (rw (moved-behind asked capacity start (rowAt (t .rows) at) l h high) at passed)
