@@ -26,7 +26,7 @@ use Rattle.planner.specs.Questions.{rowsWith, rowsShown}
 use Rattle.lent.specs.declared.Copied.{Copied}
 use Rattle.lent.specs.Copies.{copiedBy, copyChecked, copyAnswer, CopyJudged, CopyGiven, stale, short, all, CopyPlaces}
 use Rattle.lent.specs.Promises.{CopyPromise}
-use Rattle.lent.proofs.Copying.{copied-length, copied-first, copied-others, count-places}
+use Rattle.lent.proofs.CopiedSlice.{copied-length, copied-first, copied-others, count-places}
 
 -- two checks, of which the first refuses; and of which it does not
 refused-first : (a b : Checked) (n k : ℕ) → verdict a ≡ refused k → CopyJudged (copiedBy (a then b) n) (refused k) 0
