@@ -1,12 +1,11 @@
 -- A copy of a plan's rows to a lent slice: each answer is given exactly when document 01's table gives it, and the slice then holds what it is to hold. Of any
 -- outcome that meets the promise: the promise says what the answer and the slice are, and the rows of a plan are refused with 9 or admitted.
 -- Assumes nothing.
-use mathlib.Core.Path.{_≡_, refl, sym, ap, _∙_}
+use mathlib.Core.Path.{_≡_, refl, sym, ap, _∙_, subst}
 use mathlib.Core.Bool.{Bool, true, false, cond}
 use mathlib.Core.List.{List, [], map}
 use mathlib.Core.Logic.{_⊎_, _↔_, inl, inr, ⊎-elim}
 use Prim.Native.Nat.{ℕ, _≤_, _-_}
-use native.Mathlib.Nat.{le-refl}
 use native.Mathlib.Omega.{arith}
 use borrow.Author.Tests.{le-leb, lt-leb}
 use lib.Dec.{leb}
@@ -25,9 +24,9 @@ use Rattle.planner.specs.Checks.{unless, _then_}
 use Rattle.planner.specs.Records.{recordOf, noRecord}
 use Rattle.planner.specs.Questions.{rowsWith, rowsShown}
 use Rattle.lent.specs.declared.Copied.{Copied}
-use Rattle.lent.specs.Copies.{copiedBy, copyChecked, copyAnswer, copied, CopyJudged, CopyGiven, stale, short, all, CopyPlaces}
+use Rattle.lent.specs.Copies.{copiedBy, copyChecked, copyAnswer, CopyJudged, CopyGiven, stale, short, all, CopyPlaces}
 use Rattle.lent.specs.Promises.{CopyPromise}
-use Rattle.lent.proofs.Copying.{copied-length, copied-first, copied-others, count-places}
+use Rattle.lent.proofs.CopiedSlice.{copied-length, copied-first, copied-others, count-places}
 
 -- two checks, of which the first refuses; and of which it does not
 refused-first : (a b : Checked) (n k : ℕ) → verdict a ≡ refused k → CopyJudged (copiedBy (a then b) n) (refused k) 0
@@ -110,11 +109,28 @@ module _ {plan : Plan} {before after : List RowRecord} {r : Copied} (kept : Copy
   pub copy-exactly : (v : Verdict) (n : ℕ) → CopyJudged r v n ↔ CopyGiven (rowsShown plan) (length before) v n
   copy-exactly v n = (λ h. rw (sym (h .0), sym (h .1)) copy-found, copy-given)
 
+  -- the answer and the count, by the checks
+  judged : {a : Checked} → r .answer ≡ a → copiedBy check (rows .count) .answer ≡ a
+  judged e = sym (ap (λ (c : Copied). c .answer) answer-is) ∙ e
+
+  counts : r .count ≡ copiedBy check (rows .count) .count
+  counts = ap (λ (c : Copied). c .count) answer-is
+
+  all-counted : r .answer ≡ Accepted → r .count ≡ rows .count
+  all-counted e = counts ∙ accepted-count check _ (judged e)
+
+  none-counted : (why : Refusal) → r .answer ≡ Refused why → r .count ≡ 0
+  none-counted why e = counts ∙ refused-count check _ why (judged e)
+
+  -- the rows are shown where they are copied
+  pub copy-shown : r .answer ≡ Accepted → rowsShown plan .answer ≡ Accepted
+  copy-shown e = accepted-first (rows .answer) _ (rows .count) (judged e)
+
   inside : r .count ≤ places
   inside = rw (kept .answer) (count-places rows places)
 
-  all-counted : r .answer ≡ Accepted → r .count ≡ rows .count
-  all-counted e = ap (λ (c : Copied). c .count) answer-is ∙ accepted-count check (rows .count) (sym (ap (λ (c : Copied). c .answer) answer-is) ∙ e)
+  other-places : drop (r .count) after ≡ drop (r .count) before
+  other-places = ap (drop (r .count)) (kept .slice) ∙ copied-others _ (r .count) _ (r .count) (omega arith)
 
   -- what a caller finds in the slice
   pub copy-places : CopyPlaces (rowsShown plan) before r after
@@ -124,18 +140,8 @@ module _ {plan : Plan} {before after : List RowRecord} {r : Copied} (kept : Copy
         first =
             λ e.
             let n = all-counted e in
-            ap (take (r .count)) (kept .slice)
-            ∙ copied-first (rows .rows) (r .count) before (omega (arith, n, rows-inside plan)) inside
-            ∙ ap (λ (k : ℕ). take k (rows .rows)) n;
+            ap (take (r .count)) (kept .slice) ∙ copied-first _ _ _ (omega (arith, n, rows-inside plan)) inside ∙ ap (λ (k : ℕ). take k (rows .rows)) n;
         counted = λ e. omega (arith, length-take (rows .count) (rows .rows), rows-inside plan, all-counted e);
-        others = ap (drop (r .count)) (kept .slice) ∙ copied-others (rows .rows) (r .count) before (r .count) (le-refl (r .count));
-        untouched =
-            λ why e.
-            kept .slice
-            ∙ ap (λ (n : ℕ). copied (rows .rows) n before)
-            (ap (λ (c : Copied). c .count) answer-is ∙ refused-count check (rows .count) why (sym (ap (λ (c : Copied). c .answer) answer-is) ∙ e));
+        others = other-places;
+        untouched = λ why e. subst (λ (n : ℕ). drop n after ≡ drop n before) (none-counted why e) other-places;
       }
-
-  -- the rows are shown where they are copied
-  pub copy-shown : r .answer ≡ Accepted → rowsShown plan .answer ≡ Accepted
-  copy-shown e = accepted-first (rows .answer) _ (rows .count) (sym (ap (λ (c : Copied). c .answer) answer-is) ∙ e)

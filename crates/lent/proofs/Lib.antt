@@ -4,7 +4,7 @@ pub mod Tests
 pub mod Lent
 pub mod PlanField
 pub mod LentArray
-pub mod Copying
+pub mod CopiedSlice
 pub mod CopyGiven
-pub mod LentHistories
+pub mod LentDemand
 pub mod Unique

@@ -1,6 +1,6 @@
 -- No two outcomes meet a call's promise: the promise says what the answer is, and what the lent plan or each place of the lent slice is afterwards.
 -- Assumes nothing.
-use mathlib.Core.Path.{_≡_, sym, ap, _∙_}
+use mathlib.Core.Path.{_≡_, sym, ap, _∙_, subst}
 use mathlib.Core.List.{List}
 use lib.IntN.{ℤ}
 use Rattle.planner.specs.declared.Jobs.{Jobs}
@@ -8,12 +8,10 @@ use Rattle.planner.specs.declared.Plan.{Plan}
 use Rattle.planner.specs.declared.Loaded.{Loaded}
 use Rattle.planner.specs.declared.Updated.{Updated}
 use Rattle.planner.specs.declared.RowRecord.{RowRecord}
-use Rattle.planner.specs.Questions.{rowsShown}
 use Rattle.lent.specs.declared.Changed.{Changed}
 use Rattle.lent.specs.declared.Placing.{Placing}
 use Rattle.lent.specs.declared.Copied.{Copied}
 use Rattle.lent.specs.declared.controller.Controller.{Controller}
-use Rattle.lent.specs.Copies.{copied}
 use Rattle.lent.specs.Promises.{LentLoadPromise, LentUpdatePromise, CopyPromise, FreshControllerPromise, BeginPromise, StepPromise}
 use Rattle.lent.proofs.WithoutPlan.{changedOf, placingOf}
 
@@ -34,9 +32,9 @@ module _ (plan : Plan) where
       (ap changedOf same, ap (λ (u : Updated). u .plan) same)
 
   pub copy-unique : (out : List RowRecord) {r s : Copied} {a b : List RowRecord} → CopyPromise plan out r a → CopyPromise plan out s b → (r ≡ s) × (a ≡ b)
-  copy-unique out p q =
+  copy-unique out {a = a} p q =
       let same = p .answer ∙ sym (q .answer) in
-      (same, p .slice ∙ ap (λ (c : Copied). copied (rowsShown plan .rows) (c .count) out) same ∙ sym (q .slice))
+      (same, subst (λ (c : Copied). CopyPromise plan out c a) same p .slice ∙ sym (q .slice))
 
 pub fresh-controller-unique : {r s : Controller} → FreshControllerPromise r → FreshControllerPromise s → r ≡ s
 fresh-controller-unique p q = p .whole ∙ sym (q .whole)

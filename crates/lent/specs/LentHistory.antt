@@ -14,12 +14,15 @@ use Rattle.lent.specs.Promises.{LentLoadPromise, LentUpdatePromise, Fres
 
 -- a call of a lent plan: what is answered, and the plan afterwards
 pub data LentCall (plan : Plan) : Call → Updated → Type 0 where
-  loads : {jobs : Jobs} {capacity : ℤ} {r : Placing} {after : Plan} → LentLoadPromise plan jobs capacity r after → LentCall plan (load jobs capacity) (wholeUpdate (told r) after)
-  updates : {id earliest latest : ℤ} {r : Changed} {after : Plan} → LentUpdatePromise plan id earliest latest r after → LentCall plan (update id earliest latest) (wholeUpdate r after)
+  loads : {jobs : Jobs} {capacity : ℤ} {r : Placing} {after : Plan} → LentLoadPromise plan jobs capacity r after
+      → LentCall plan (load jobs capacity) (wholeUpdate (told r) after)
+  updates : {id earliest latest : ℤ} {r : Changed} {after : Plan} → LentUpdatePromise plan id earliest latest r after
+      → LentCall plan (update id earliest latest) (wholeUpdate r after)
 
 pub data LentCalls : Plan → List Call → Plan → Type 0 where
   lent-end : {plan : Plan} → LentCalls plan [] plan
-  lent-next : {plan after : Plan} {call : Call} {calls : List Call} {u : Updated} → LentCall plan call u → LentCalls (u .plan) calls after → LentCalls plan (call ∷ calls) after
+  lent-next : {plan after : Plan} {call : Call} {calls : List Call} {u : Updated} → LentCall plan call u
+      → LentCalls (u .plan) calls after → LentCalls plan (call ∷ calls) after
 
 -- a call of a controller, and the controller afterwards
 pub data ControllerCall (c : Controller) : Call → Controller → Type 0 where
@@ -28,7 +31,8 @@ pub data ControllerCall (c : Controller) : Call → Controller → Type 0 where
 
 pub data ControllerCalls : Controller → List Call → Controller → Type 0 where
   controller-end : {c : Controller} → ControllerCalls c [] c
-  controller-next : {c r after : Controller} {call : Call} {calls : List Call} → ControllerCall c call r → ControllerCalls r calls after → ControllerCalls c (call ∷ calls) after
+  controller-next : {c r after : Controller} {call : Call} {calls : List Call} → ControllerCall c call r
+      → ControllerCalls r calls after → ControllerCalls c (call ∷ calls) after
 
 -- a controller that some calls of a fresh one led to
 pub record ControllerAfter (calls : List Call) (c : Controller) : Type 0 where

@@ -67,7 +67,7 @@ use Rattle.planner.specs.Records.{noRow}
 use Rattle.lent.specs.Copies.{copyAnswer, rowFor, copied}
 use Rattle.lent.proofs.Locals.{nthTy}
 use Rattle.lent.proofs.Tests.{tests}
-use Rattle.lent.proofs.Copying.{copied-length, count-places, count-rows}
+use Rattle.lent.proofs.CopiedSlice.{copied-length, count-places, count-rows}
 use Rattle.planner.proofs.ShownRows.{shown-rows}
 use Rattle.lent.proofs.Copied as N
 use Rattle.lent.proofs.Copied.Laws as N′

@@ -40,7 +40,7 @@ copied-others xs (suc i) ys k h = drop-set-lt k (copied xs i ys) i _ h ∙ copie
 
 -- a count is copied where the answer is no refusal, and then it fits
 by-places : (answer : Checked) (why : Refusal) (test : Bool) (n l : ℕ) → (T test → n ≤ l) → copiedBy (answer then unless why test) n .count ≤ l
-by-places Checked.Accepted why true n l h = h tt
+by-places Checked.Accepted why true n l h = omega (arith, h tt)
 by-places Checked.Accepted why false n l h = zero-le
 by-places (Checked.Refused other) why test n l h = zero-le
 
