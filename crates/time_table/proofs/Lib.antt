@@ -2,6 +2,7 @@ pub mod Held
 pub mod Bits
 pub mod Mapped
 pub mod RowOf
+pub mod UnusedPlaces
 pub mod Cut
 pub mod CoveredPiece
 pub mod Sums
@@ -10,6 +11,7 @@ pub mod AtRow
 pub mod RowsInOrder
 pub mod Build
 pub mod Apart
+pub mod SharedInstant
 pub mod Sentence
 pub mod Scan
 pub mod InsertionSum
