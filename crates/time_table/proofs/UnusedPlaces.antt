@@ -1,6 +1,6 @@
 -- Unused places: of a row's 32 ids they are 0, and of a table's 128 rows they are rows of zeros, since an array is its list and then one value to its end.
 -- Assumes nothing.
-use mathlib.Core.Path.{_≡_, refl, ap, _∙_}
+use mathlib.Core.Path.{_≡_, refl, _∙_}
 use mathlib.Core.List.{List}
 use Prim.Native.Nat.{ℕ, _+_, _-_, _≤_, _<_}
 use native.Mathlib.Omega.{arith}
