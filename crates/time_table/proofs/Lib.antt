@@ -13,8 +13,6 @@ pub mod Build
 pub mod Apart
 pub mod SharedInstant
 pub mod Sentence
-pub mod Scan
-pub mod InsertionSum
 pub mod RemovalSum
 pub mod InsertionMeaning
 pub mod Shares
@@ -29,7 +27,6 @@ pub mod PartsInTurn
 pub mod AdjustedRight
 pub mod Demanded
 pub mod Overloaded
-pub mod Piecewise
 pub mod Front
 pub mod TableUpdate
 pub mod Meets

@@ -9,7 +9,7 @@ use borrow.Author.Tests.{not-true, not-false}
 use borrow.Author.Needs.{needs}
 use native.Mathlib.Omega.{arith}
 use Rattle.time_table.specs.PartByPart.{gapIn, piecesFrom}
-use Rattle.time_table.proofs.Piecewise.{no-piece, no-gap, no-left, no-covered, found, row-ends}
+use Rattle.time_table.proofs.part_by_part.PiecesInTurn.{no-piece, no-gap, no-left, no-covered, found, row-ends}
 use Rattle.time_table.proofs.part_by_part.next_piece.Statement.{statement}
 use Rattle.time_table.proofs.part_by_part.next_piece.Tie as tie
 

@@ -14,7 +14,7 @@ use Rattle.time_table.specs.declared.Edited.{Edited}
 use Rattle.time_table.specs.Rows.{noRow, rowAt}
 use Rattle.time_table.specs.Update.{updated}
 use Rattle.time_table.specs.PartByPart.{partAt, untouched, NextPiece}
-use Rattle.time_table.proofs.Piecewise.{alone-at}
+use Rattle.time_table.proofs.part_by_part.PiecesInTurn.{alone-at}
 use Rattle.time_table.proofs.Front.{Front, front-behind, clear-start, clear-more, clear-all}
 use Rattle.time_table.proofs.time_table_over_interval_incremental.update_time_table.Proof.StepOverRows.{later-end}
 use Rattle.time_table.proofs.time_table_over_interval_incremental.update_time_table.Proof.MovedToEnd.{raised-start, raised-more}
