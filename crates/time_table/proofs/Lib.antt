@@ -2,6 +2,7 @@ pub mod Held
 pub mod Bits
 pub mod Mapped
 pub mod RowOf
+pub mod UnusedPlaces
 pub mod Cut
 pub mod CoveredPiece
 pub mod Sums
@@ -10,9 +11,8 @@ pub mod AtRow
 pub mod RowsInOrder
 pub mod Build
 pub mod Apart
+pub mod SharedInstant
 pub mod Sentence
-pub mod Scan
-pub mod InsertionSum
 pub mod RemovalSum
 pub mod InsertionMeaning
 pub mod Shares
@@ -27,7 +27,6 @@ pub mod PartsInTurn
 pub mod AdjustedRight
 pub mod Demanded
 pub mod Overloaded
-pub mod Piecewise
 pub mod Front
 pub mod TableUpdate
 pub mod Meets

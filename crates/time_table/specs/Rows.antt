@@ -1,8 +1,9 @@
 -- A row: a start, an inclusive end, a height and a list of tasks. A table: a list of rows.
 -- Each value is determined to its last place: unused ids are 0, and rows from the count on are empty.
+use mathlib.Core.Path.{_≡_}
 use mathlib.Core.Bool.{cond}
 use mathlib.Core.List.{List, [], _∷_}
-use Prim.Native.Nat.{ℕ, _-_}
+use Prim.Native.Nat.{ℕ, _-_, _<_}
 use lib.Dec.{ltb}
 use lib.ListN.{length, take, getD}
 use Rattle.time_table.specs.declared.Row.{Row}
@@ -23,6 +24,14 @@ rowOf start end height tasks =
 
 abbrev pub emptyRow : Row
 emptyRow = rowOf 0 0 0 []
+
+-- every number of a row is 0, the 32 ids among them
+pub record AllZero (r : Row) : Type 0 where
+  pub start : r .start ≡ 0
+  pub end : r .end ≡ 0
+  pub height : r .height ≡ 0
+  pub count : r .count ≡ 0
+  pub ids : (k : ℕ) → k < 32 → getD (r .ids) k 1 ≡ 0
 
 -- the tasks that a row lists, in order
 abbrev pub tasks : Row → List ℕ

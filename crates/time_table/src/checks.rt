@@ -1,7 +1,8 @@
-// The pieces that an insertion makes of a row (the Rust's checks.rs and insertion.rs). What of the part
-// lies before the row is its first piece, so the piece before the first row and those between two are
-// one check. What lies behind the last row is `part_by_part::last_profile`. Where no row overlaps the
-// part, the Rust's insert_profile_new_mandatory_part, the one or the other is all of the part.
+// The pieces that an insertion makes of a row (the Rust's checks.rs). What of the part lies before the
+// row is its first piece, so the Rust's new_profile_before_first_profile and
+// new_profile_between_profiles are one check. The Rust's new_part_after_last_profile is
+// `part_by_part::last_profile`. Where no row overlaps the part (the Rust's
+// insert_profile_new_mandatory_part), the whole part is one such piece.
 ghost use mathlib.Core.Path.{_≡_};
 ghost use Prim.Native.Nat.{_+_, _<_, _^_};
 ghost use Rattle.time_table.specs.Rows.{roomForIds, Listed};

@@ -1,4 +1,7 @@
-// One step of an update, row by row: what a part that is taken out or put in makes of a row.
+// One step of an update, row by row: what a part that is taken out or put in makes of a row. It has the
+// bodies of two loops of the Rust over the overlapping rows, that of insertion.rs
+// (conflicting_after_insertion_of_overlapping_mandatory) and that of removal.rs
+// (reduce_profiles_overlapping_with_added_mandatory_part). The loop is `update_time_table`'s.
 ghost use mathlib.Core.Path.{_≡_};
 ghost use Prim.Native.Nat.{_+_, _<_, _^_};
 ghost use Rattle.time_table.specs.Pieces.{Cuts};
@@ -61,13 +64,13 @@ pub(crate) fn covered_piece(taking: bool, part: Part, profile: Row) -> Piece
 }
 
 // Of the four pieces that a part makes of a row (0 the gap before it, 1 left, 2 covered, 3 right), the
-// first from number j on that is there; none if there is none. `lone` is a row of the part's task
+// first from `number` on that is there; none if there is none. `lone` is a row of the part's task
 // alone.
-pub(crate) fn next_piece(taking: bool, part: Part, lone: Row, profile: Row, j: usize) -> Piece
-    requires { ⌜ Changeable taking part profile × (j < 4) × (lone ≡ alone part) ⌝ }
-    ensures { λ r. ⌜ NextPiece taking part profile j r ⌝ }
+pub(crate) fn next_piece(taking: bool, part: Part, lone: Row, profile: Row, number: usize) -> Piece
+    requires { ⌜ Changeable taking part profile × (number < 4) × (lone ≡ alone part) ⌝ }
+    ensures { λ r. ⌜ NextPiece taking part profile number r ⌝ }
 {
-    if j == 0 {
+    if number == 0 {
         if !taking {
             let gap = checks::new_profile_before_profile(part, lone, profile);
             if gap.some {
@@ -75,13 +78,13 @@ pub(crate) fn next_piece(taking: bool, part: Part, lone: Row, profile: Row, j: u
             }
         }
     }
-    if j <= 1 {
+    if number <= 1 {
         let left = checks::split_profile_added_part_starts_after_profile_start(part, profile);
         if left.some {
             return left;
         }
     }
-    if j <= 2 {
+    if number <= 2 {
         let covered = covered_piece(taking, part, profile);
         if covered.some {
             return covered;
@@ -90,8 +93,8 @@ pub(crate) fn next_piece(taking: bool, part: Part, lone: Row, profile: Row, j: u
     checks::split_profile_added_part_ends_before_profile_end(part, profile)
 }
 
-// What a step that has come to the instant `from` lays behind the last row. `lone` is a row of its
-// task alone.
+// What a step that has come to the instant `from` lays behind the last row (the Rust's
+// new_part_after_last_profile). `lone` is a row of its task alone.
 pub(crate) fn last_profile(step: Step, lone: Row, from: u32) -> Piece
     requires { ⌜ lone ≡ alone (step .part) ⌝ }
     ensures { λ r. ⌜ Cuts r 4 (madeLast step from) ⌝ }

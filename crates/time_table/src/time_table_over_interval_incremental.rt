@@ -200,8 +200,8 @@ pub(crate) fn highest(table: Table) -> u32
     highest
 }
 
-// The first row that is higher than the capacity. They are gone through only if one is, since to look
-// for the greatest height is faster.
+// The first row that is higher than the capacity. Rows are searched only if the greatest height
+// exceeds the capacity: to look for the greatest is faster.
 pub fn find_conflicting_profile(table: Table, capacity: u32) -> Conflict
     requires { ⌜ Clean table ⌝ }
     ensures { λ r. ⌜ r ≡ conflictIn capacity (rowsOf table) ⌝ }

@@ -9,7 +9,7 @@ use borrow.Author.Needs.{needs}
 use lib.ListN.{drop}
 use Rattle.time_table.specs.Rows.{rowsOf}
 use Rattle.time_table.specs.Overload.{conflictIn}
-use Rattle.time_table.proofs.Scan.{conflict-here, conflict-further, conflict-none, none-higher}
+use Rattle.time_table.proofs.time_table_over_interval_incremental.RowsTooHigh.{conflict-here, conflict-further, conflict-none, none-higher}
 use Rattle.time_table.proofs.time_table_over_interval_incremental.find_conflicting_profile.Statement.{statement}
 use Rattle.time_table.proofs.time_table_over_interval_incremental.find_conflicting_profile.Tie as tie
 

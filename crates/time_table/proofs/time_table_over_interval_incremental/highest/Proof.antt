@@ -6,7 +6,7 @@ use native.Mathlib.Omega.{arith}
 use lib.ListN.{drop}
 use Rattle.time_table.specs.Rows.{rowsOf}
 use Rattle.time_table.specs.Overload.{highest}
-use Rattle.time_table.proofs.Scan.{highest-here, highest-none}
+use Rattle.time_table.proofs.time_table_over_interval_incremental.RowsTooHigh.{highest-here, highest-none}
 use Rattle.time_table.proofs.time_table_over_interval_incremental.highest.Statement.{statement}
 use Rattle.time_table.proofs.time_table_over_interval_incremental.highest.Tie as tie
 

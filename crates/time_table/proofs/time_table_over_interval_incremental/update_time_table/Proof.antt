@@ -14,14 +14,14 @@ use Rattle.time_table.specs.declared.Edited.{Edited}
 use Rattle.time_table.specs.Rows.{noRow, rowAt}
 use Rattle.time_table.specs.Update.{updated}
 use Rattle.time_table.specs.PartByPart.{partAt, untouched, NextPiece}
-use Rattle.time_table.proofs.Piecewise.{alone-at}
+use Rattle.time_table.proofs.part_by_part.PiecesInTurn.{alone-at}
 use Rattle.time_table.proofs.Front.{Front, front-behind, clear-start, clear-more, clear-all}
 use Rattle.time_table.proofs.time_table_over_interval_incremental.update_time_table.Proof.StepOverRows.{later-end}
 use Rattle.time_table.proofs.time_table_over_interval_incremental.update_time_table.Proof.MovedToEnd.{raised-start, raised-more}
 use Rattle.time_table.proofs.time_table_over_interval_incremental.update_time_table.Proof.LaidRows.{laid-size, last-none, last-some, last-over, Moves, moves-on}
 use Rattle.time_table.proofs.time_table_over_interval_incremental.update_time_table.Proof.ParkedRow.{Walked, walked-from, walked-none, walked-piece, walked-over, walked-raised, two-ahead, no-place, next-lies, walked-cut, rest-over, walked-rests, moves-start, walked-moved}
 use Rattle.time_table.proofs.time_table_over_interval_incremental.update_time_table.Proof.PartsDone.{stepAt, tabled, overAll, turn, Progress, Ended, finished, started, ended-is}
-use Rattle.time_table.proofs.time_table_over_interval_incremental.update_time_table.Proof.Places.{Inv-skip, μ-skip, Inv-raise, μ-raise, Inv-lower, μ-lower, Inv-walk, μ-walk, Inv-clear, μ-clear, Inv-parts, μ-parts, At, adjusted, given, parts, table, turning, stepping, stepOf, skipping, walking, whole, piecing, parking, reading, staying, lowering, ending}
+use Rattle.time_table.proofs.time_table_over_interval_incremental.update_time_table.Proof.Places.{Inv-skip, μ-skip, Inv-raise, μ-raise, Inv-lower, μ-lower, Inv-walk, μ-walk, Inv-clear, μ-clear, Inv-parts, μ-parts, At, adjusted, given, parts, table, turning, choosing, stepping, stepOf, skipping, walking, whole, looking, piecing, parking, laying, atRow, reading, cutting, staying, lowering, ending, lastLaying, closing}
 use Rattle.time_table.proofs.time_table_over_interval_incremental.update_time_table.Statement.{statement}
 use Rattle.time_table.proofs.time_table_over_interval_incremental.update_time_table.Tie as tie
 mod StepOverRows
@@ -94,7 +94,7 @@ step-is c =
 skip-holds : At tie.Need-skip-holds
 skip-holds c =
     let o = stepping c .parts in
-    let tn = turn (parts (stepping c)) (table (stepping c)) (o .inv .2) (omega (arith, o .inv .1, c .before .before .before .parts-test .taken)) (stepOf c) (step-is c) in
+    let tn = turn (parts (stepping c)) (table (stepping c)) (o .inv .2) (omega (arith, o .inv .1, choosing c .parts-test .taken)) (stepOf c) (step-is c) in
     (tn, omega arith, λ x lt. absurd (omega arith), λ x le lt. absurd (omega arith))
 
 sub-half : At tie.Need-sub-half
@@ -159,7 +159,7 @@ part-at-requires c κs = search needs
 
 next-piece-requires : At tie.Need-next-piece-requires
 next-piece-requires c κs =
-    let w = c .before .before .before in
+    let w = looking c in
     let more = c .before .if5 .taken in
     (rw (c .part-at .ensures) (w .walk .inv .1 .laid .can more), more, rw (c .part-at .ensures) (walking w .new-profile .ensures ∙ sym (alone-at (stepOf (walking w)) _)))
 
@@ -253,12 +253,12 @@ add-write c = omega (arith, placed (c .before) .1)
 
 walk-less : At tie.Need-walk-less
 walk-less c =
-    let p = c .before .before .before in
+    let p = laying c in
     omega (arith, placed (c .before) .2, next-is p .on, next-is p .upto, more p)
 
 walk-again : At tie.Need-walk-again
 walk-again c =
-    let l = piecing (c .before .before .before) .walk in
+    let l = piecing (laying c) .walk in
     (l .inv .0, placed (c .before) .0, l .inv .2)
 
 -- or there is none
@@ -273,23 +273,23 @@ walk-again-2 c =
 
 -- THE NEXT ROW
 -- where no piece is left and the rows are not all read, there is one
-inside : (c : At tie.Else5) → c .before .before .walk .read < c .before .before .walk .count
+inside : (c : At tie.Else5) → atRow c .walk .read < atRow c .walk .count
 inside c =
-    ⊎-elim (λ h. h .taken) (λ h. absurd (omega (arith, ltb-true (c .before .before .walk .piece-number) 4 (h .1 .taken), c .if5 .left))) (c .before .if3 .came)
+    ⊎-elim (λ h. h .taken) (λ h. absurd (omega (arith, ltb-true (atRow c .walk .piece-number) 4 (h .1 .taken), c .if5 .left))) (c .before .if3 .came)
 
-none : (c : At tie.Else5) → 4 ≤ c .before .before .walk .piece-number
+none : (c : At tie.Else5) → 4 ≤ atRow c .walk .piece-number
 none c = c .if5 .left
 
 mul-next : At tie.Need-mul-next
-mul-next c = omega (arith, inside c, c .before .before .walk .inv .1 .laid .unread .clean .fits)
+mul-next c = omega (arith, inside c, atRow c .walk .inv .1 .laid .unread .clean .fits)
 
 array-copy-out-next : At tie.Need-array-copy-out-next
-array-copy-out-next c = omega (arith, inside c, c .before .before .walk .inv .1 .laid .unread .clean .fits)
+array-copy-out-next c = omega (arith, inside c, atRow c .walk .inv .1 .laid .unread .clean .fits)
 
 -- and it is the first of those that are left
-first-left : (c : At tie.Joined12) → let l = reading c .before .before .walk in c .if12 .next ≡ rowAt (l .inv .1 .laid .source) (l .read)
+first-left : (c : At tie.Joined12) → let l = atRow (reading c) .walk in c .if12 .next ≡ rowAt (l .inv .1 .laid .source) (l .read)
 first-left c =
-    let l = reading c .before .before .walk in
+    let l = atRow (reading c) .walk in
     ⊎-elim (λ w. w .1 ∙ l .inv .1 .kept (w .0 .taken) (inside (reading c)) .0) (λ w. w .1 ∙ front-behind (l .inv .1 .laid .front) _ (l .read) (w .0 .left)) (c .if12 .came)
 
 is-untouched-requires : At tie.Need-is-untouched-requires
@@ -300,29 +300,29 @@ instant-behind-requires : At tie.Need-instant-behind-requires
 instant-behind-requires c κs =
     let j = c .before .before in
     let r = reading j in
-    rw (first-left j) (next-lies (r .before .before .walk .inv .1) (none r) (inside r))
+    rw (first-left j) (next-lies (atRow r .walk .inv .1) (none r) (inside r))
 
 add-read : At tie.Need-add-read
 add-read c =
-    let r = reading (c .before .before .before) in
-    omega (arith, inside r, r .before .before .walk .inv .1 .laid .unread .clean .fits)
+    let r = reading (cutting c) in
+    omega (arith, inside r, atRow r .walk .inv .1 .laid .unread .clean .fits)
 
 walk-less-3 : At tie.Need-walk-less-3
-walk-less-3 c = let r = reading (c .before .before .before) in omega (arith, inside r, none r)
+walk-less-3 c = let r = reading (cutting c) in omega (arith, inside r, none r)
 
 walk-again-3 : At tie.Need-walk-again-3
 walk-again-3 c =
-    let j = c .before .before .before in
+    let j = cutting c in
     let r = reading j in
-    let l = r .before .before .walk in
+    let l = atRow r .walk in
     (l .inv .0, rw (c .instant-behind .ensures, first-left j) (walked-cut (l .inv .1) (none r) (inside r)), l .inv .2)
 
 -- the part does not touch it
 stays : (c : At tie.Else13)
-    → let w = reading (staying c) .before .before in
+    → let w = atRow (reading (staying c)) in
     untouched (stepOf (walking w)) (w .walk .reached) (rowAt (w .walk .inv .1 .laid .source) (w .walk .read)) ≡ true
 stays c =
-    let w = reading (staying c) .before .before in
+    let w = atRow (reading (staying c)) in
     ap (untouched (stepOf (walking w)) (w .walk .reached)) (sym (first-left (staying c))) ∙ sym (c .before .is-untouched .ensures) ∙ not-false _ (c .if13 .left)
 
 -- it stays in its place, with all rows behind it
@@ -333,25 +333,25 @@ walk-again-4 : At tie.Need-walk-again-4
 walk-again-4 c =
     let s = c .before .before in
     let r = reading (staying s) in
-    let l = r .before .before .walk in
+    let l = atRow r .walk in
     (l .inv .0, walked-rests (l .inv .1) (none r) (inside r) (stays s) (c .if15 .taken), l .inv .2)
 
 -- or it moves down, with all rows behind it
 entered : (c : At tie.Else15)
-    → let w = reading (staying (lowering c)) .before .before in
+    → let w = atRow (reading (staying (lowering c))) in
     let l = w .walk in
     Moves (stepOf (walking w)) (whole w) (l .rows) (l .write) (l .reached) (l .count) (l .read) (l .row) (l .reached-before) (l .piece-number)
 entered c =
     let s = lowering c in
     let r = reading (staying s) in
-    moves-start (r .before .before .walk .inv .1) (none r) (inside r) (stays s) (omega (arith, c .before .if14 .left))
+    moves-start (atRow r .walk .inv .1) (none r) (inside r) (stays s) (omega (arith, c .before .if14 .left))
 
 lower-holds : At tie.Need-lower-holds
 lower-holds c = λ whole m. m
 
 -- how far they have moved
 moves : (c : At tie.At-lower)
-    → let w = reading (staying (lowering (c .before))) .before .before in
+    → let w = atRow (reading (staying (lowering (c .before)))) in
     let l = w .walk in
     Moves (stepOf (walking w)) (whole w) (c .lower .rows) (c .lower .write) (l .reached) (l .count) (c .lower .read) (l .row) (l .reached-before) (l .piece-number)
 moves c = c .lower .inv _ (entered (c .before))
@@ -361,7 +361,7 @@ walk-less-5 c = omega (arith, inside (reading (staying (lowering (c .before .bef
 
 walk-again-5 : At tie.Need-walk-again-5
 walk-again-5 c =
-    let l = reading (staying (lowering (c .before .before))) .before .before .walk in
+    let l = atRow (reading (staying (lowering (c .before .before)))) .walk in
     (l .inv .0, walked-moved _ (moves (c .before)) (omega (arith, c .lower-test .left)), l .inv .2)
 
 mul-moved-2 : At tie.Need-mul-moved-2
@@ -393,13 +393,13 @@ last-profile-requires : At tie.Need-last-profile-requires
 last-profile-requires c κs = walking (c .before .before) .new-profile .ensures
 
 mul-rows-4 : At tie.Need-mul-rows-4
-mul-rows-4 c = omega (arith, ending (c .before .before .before) .walk .inv .1 .laid .front .fits)
+mul-rows-4 c = omega (arith, ending (lastLaying c) .walk .inv .1 .laid .front .fits)
 
 array-set-from-rows-4 : At tie.Need-array-set-from-rows-4
-array-set-from-rows-4 c = omega (arith, ending (c .before .before .before) .walk .inv .1 .laid .front .fits, c .before .if17 .left)
+array-set-from-rows-4 c = omega (arith, ending (lastLaying c) .walk .inv .1 .laid .front .fits, c .before .if17 .left)
 
 add-write-3 : At tie.Need-add-write-3
-add-write-3 c = omega (arith, ending (c .before .before .before) .walk .inv .1 .laid .front .fits)
+add-write-3 c = omega (arith, ending (lastLaying c) .walk .inv .1 .laid .front .fits)
 
 clear-holds : At tie.Need-clear-holds
 clear-holds c =
@@ -431,13 +431,13 @@ clear-again : At tie.Need-clear-again
 clear-again c =
     let a = c .before .before in
     let q = a .clear .inv in
-    let blank = stepping (walking (ending (a .before .before))) .before .empty .ensures in
+    let blank = stepping (walking (ending (closing a))) .before .empty .ensures in
     (q .0, record { whole = q .1 .whole; next = q .1 .next; cleared = rw blank (clear-more (q .1 .cleared) (omega (arith, q .0))) })
 
 -- THE PART IS DONE
 add-done : At tie.Need-add-done
 add-done c =
-    let o = stepping (walking (ending (c .before .before .before))) .parts in
+    let o = stepping (walking (ending (closing (c .before)))) .parts in
     omega (arith, o .inv .1, o .inv .2 .removed .fits, o .inv .2 .added .fits)
 
 parts-less : At tie.Need-parts-less
@@ -446,7 +446,7 @@ parts-less c = omega arith
 parts-again : At tie.Need-parts-again
 parts-again c =
     let q = c .before .clear .inv in
-    let e = ending (c .before .before .before) in
+    let e = ending (closing (c .before)) in
     (omega arith, stepping (walking e) .parts .inv .1, q .1 .next _ _ (clear-all (q .1 .cleared) (omega arith)), e .walk .inv .2)
 
 -- THE ANSWER

@@ -19,7 +19,7 @@ use Rattle.time_table.specs.Insertion.{startedAt, pastRow}
 use Rattle.time_table.specs.PartByPart.{partAt, piecesFrom, NextPiece, madeLast, untouched, Changeable}
 use Rattle.time_table.proofs.Editable.{stepped, CanStep}
 use Rattle.time_table.proofs.Held.{held-length, held-next, held-end}
-use Rattle.time_table.proofs.Piecewise.{no-piece}
+use Rattle.time_table.proofs.part_by_part.PiecesInTurn.{no-piece}
 use Rattle.time_table.proofs.AtRow.{each-of}
 use Rattle.time_table.proofs.Front.{Front, front-as, front-store, front-behind}
 use Rattle.time_table.proofs.time_table_over_interval_incremental.update_time_table.Proof.MovedToEnd.{Raised}

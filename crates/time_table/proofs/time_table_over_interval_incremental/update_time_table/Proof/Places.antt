@@ -103,6 +103,9 @@ abbrev pub turning : At tie.After-part → At tie.At-parts
 turning c = c .before .before
 
 -- the step is known
+abbrev pub choosing : At tie.After-new-profile → At tie.In-parts
+choosing c = c .before .before .before
+
 abbrev pub stepping : At tie.After-new-profile → At tie.At-parts
 stepping c = turning (c .before .before)
 
@@ -120,17 +123,31 @@ walking c = c .before .before .before
 abbrev pub whole : At tie.At-walk → List Row
 whole c = madeOf (stepOf (walking c)) (stepping (walking c) .parts .rows) (stepping (walking c) .parts .count)
 
--- a piece is looked for
+-- a piece is looked for, and found or not
+abbrev pub looking : At tie.After-part-at → At tie.At-walk
+looking c = c .before .before .before
+
 abbrev pub piecing : At tie.After-next-piece → At tie.At-walk
-piecing c = c .before .before .before .before
+piecing c = looking (c .before)
 
 -- the piece is to be written where the next row stands, which is parked
 abbrev pub parking : At tie.Then9 → At tie.After-next-piece
 parking c = c .before .before .before .before
 
+-- the piece is written
+abbrev pub laying : At tie.After-laid → At tie.After-next-piece
+laying c = c .before .before .before
+
 -- the next row is read
+abbrev pub atRow : At tie.Else5 → At tie.At-walk
+atRow c = c .before .before
+
 abbrev pub reading : At tie.Joined12 → At tie.Else5
 reading c = c .before .before
+
+-- it falls into pieces
+abbrev pub cutting : At tie.After-instant-behind → At tie.Joined12
+cutting c = c .before .before .before
 
 -- the part does not touch it
 abbrev pub staying : At tie.Else13 → At tie.Joined12
@@ -143,3 +160,11 @@ lowering c = c .before .before
 -- the rows are all read
 abbrev pub ending : At tie.After-last-profile → At tie.At-walk
 ending c = c .before .before .before
+
+-- what lies behind the last is written
+abbrev pub lastLaying : At tie.After-laid2 → At tie.After-last-profile
+lastLaying c = c .before .before .before
+
+-- the places behind are cleared
+abbrev pub closing : At tie.At-clear → At tie.After-last-profile
+closing c = c .before .before

@@ -1,0 +1,2 @@
+-- What the proofs of `highest` and `find_conflicting_profile` share.
+pub mod RowsTooHigh
