@@ -9,6 +9,8 @@ pub mod LineBytes
 pub mod CommandOutcomes
 pub mod ServedLines
 pub mod Transcript
+pub mod SpacesAndFeeds
+pub mod ReadableLines
 pub mod Calls
 pub mod TableLines
 pub mod Unreadable

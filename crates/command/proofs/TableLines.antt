@@ -6,11 +6,10 @@ use mathlib.Core.Bool.{Bool, true, false, cond}
 use mathlib.Core.List.{List, [], _∷_, _++_, map, flatMap, append-nil, append-assoc}
 use Prim.Native.Nat.{ℕ, zero, suc, _+_, _-_, _/_, _%_, _≤_, _<_}
 use native.Mathlib.Omega.{arith}
-use borrow.Author.Tests.{ne-eqb}
 use lib.Dec.{ltb}
 use lib.IntN.{ℤ, pos, negsuc}
 use lib.ListN.{length, getD, length-append, length-map, List·getD-append}
-use lib.Seq.{append-snoc, getD-at}
+use lib.Seq.{getD-at}
 use Rattle.sweep.proofs.Placed.{get-map}
 use Rattle.planner.specs.declared.Plan.{Plan}
 use Rattle.planner.specs.declared.RowRecord.{RowRecord}
@@ -32,20 +31,8 @@ use Rattle.command.specs.Sessions.{freshSession, outcome, answered}
 use Rattle.command.specs.Lines.{linesAfter, linesOf}
 use Rattle.command.specs.Calls.{sessionAfter, callsOf}
 use Rattle.command.specs.TableLines.{rowFields, ListsRows, PrintedByT, refused-9, listed}
+use Rattle.command.proofs.SpacesAndFeeds.{Above, above-append, above-less, field-last, field-first, line-first}
 use Rattle.command.proofs.Calls.{plan-after-lines}
-
--- each byte is greater than a space or, with n = 10, than a line feed
-abbrev Above : ℕ → List ℕ → Type 0
-Above n [] = Unit {0}
-Above n (b ∷ bs) = (n < b) × Above n bs
-
-above-append : (n : ℕ) (l m : List ℕ) → Above n l → Above n m → Above n (l ++ m)
-above-append n [] m p q = q
-above-append n (b ∷ l) m p q = (p .0, above-append n l m (p .1) q)
-
-above-less : (l : List ℕ) → Above 32 l → Above 10 l
-above-less [] p = tt
-above-less (b ∷ l) p = (omega (arith, p .0), above-less l (p .1))
 
 -- the bytes of a number are
 digits-above : (room n : ℕ) → Above 32 (digitsIn room n)
@@ -65,27 +52,6 @@ signed-above : (z : ℤ) → Above 32 (signedText z)
 unfolding signedText
 signed-above (pos n) = decimal-above n
 signed-above (negsuc n) = (omega arith, decimal-above (suc n))
-
--- the first field ends at a space, and the last with the line
-field-last : (l : List ℕ) → Above 32 l → fieldsOf l ≡ l ∷ []
-unfolding fieldsOf
-field-last [] p = refl
-field-last (b ∷ l) p = rw (ne-eqb b 32 (λ e. omega (arith, p .0)), field-last l (p .1))
-
-field-first : (l rest : List ℕ) → Above 32 l → fieldsOf (l ++ 32 ∷ rest) ≡ l ∷ fieldsOf rest
-unfolding fieldsOf
-field-first [] rest p = refl
-field-first (b ∷ l) rest p = rw (ne-eqb b 32 (λ e. omega (arith, p .0)), field-first l rest (p .1))
-
--- a line ends at a line feed
-line-on : (begun l rest : List ℕ) → Above 10 l → linesAfter begun (l ++ 10 ∷ rest) ≡ (begun ++ l) ∷ linesAfter [] rest
-unfolding linesAfter
-line-on begun [] rest p = ap (λ (m : List ℕ). m ∷ linesAfter [] rest) (sym (append-nil begun))
-line-on begun (b ∷ l) rest p =
-    rw (ne-eqb b 10 (λ e. omega (arith, p .0))) (line-on (begun ++ b ∷ []) l rest (p .1) ∙ ap (λ (m : List ℕ). m ∷ linesAfter [] rest) (append-snoc begun b l))
-
-line-first : (l rest : List ℕ) → Above 10 l → linesOf ((l ++ 10 ∷ []) ++ rest) ≡ l ∷ linesOf rest
-line-first l rest p = ap (linesAfter []) (append-snoc l 10 rest) ∙ line-on [] l rest p
 
 -- a row's line, and the last line
 abbrev rowLine : RowRecord → List ℕ

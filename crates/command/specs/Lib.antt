@@ -1,6 +1,7 @@
 pub mod Decimal
 pub mod Numbers
 pub mod Grammar
+pub mod ReadableLines
 pub mod Text
 pub mod Written
 pub mod Sessions
