@@ -11,6 +11,8 @@ pub mod ServedLines
 pub mod Transcript
 pub mod SpacesAndFeeds
 pub mod ReadableLines
+pub mod PrintedNumbers
+pub mod PrintedAnswers
 pub mod Calls
 pub mod TableLines
 pub mod Unreadable

@@ -164,7 +164,7 @@ line-said letter {fs} {zs} dark few ns =
       values-read ns,
     )
 
-said-read : {line : List ℕ} {c : Command} → Says line c → commandOf line ≡ c
+pub said-read : {line : List ℕ} {c : Command} → Says line c → commandOf line ≡ c
 unfolding byLetter commandWith numbersTaken
 said-read (keep ns) = line-said 74 (omega arith) (omega arith) ns
 said-read (load ns) = line-said 76 (omega arith) (omega arith) ns

@@ -23,12 +23,12 @@ above-less [] p = tt
 above-less (b ∷ l) p = (omega (arith, p .0), above-less l (p .1))
 
 -- the first field ends at a space, and the last with the line
-pub field-last : (l : List ℕ) → Above 32 l → fieldsOf l ≡ l ∷ []
+field-last : (l : List ℕ) → Above 32 l → fieldsOf l ≡ l ∷ []
 unfolding fieldsOf
 field-last [] p = refl
 field-last (b ∷ l) p = rw (ne-eqb b 32 (λ e. omega (arith, p .0)), field-last l (p .1))
 
-pub field-first : (l rest : List ℕ) → Above 32 l → fieldsOf (l ++ 32 ∷ rest) ≡ l ∷ fieldsOf rest
+field-first : (l rest : List ℕ) → Above 32 l → fieldsOf (l ++ 32 ∷ rest) ≡ l ∷ fieldsOf rest
 unfolding fieldsOf
 field-first [] rest p = refl
 field-first (b ∷ l) rest p = rw (ne-eqb b 32 (λ e. omega (arith, p .0)), field-first l rest (p .1))

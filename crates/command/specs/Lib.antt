@@ -6,6 +6,8 @@ pub mod Text
 pub mod Written
 pub mod Sessions
 pub mod Lines
+pub mod PrintedNumbers
+pub mod PrintedAnswers
 pub mod Calls
 pub mod TableLines
 pub mod Listing
