@@ -8,6 +8,7 @@ pub mod FieldNumbers
 pub mod LineBytes
 pub mod CommandOutcomes
 pub mod ServedLines
+pub mod LinesOf
 pub mod Transcript
 pub mod SpacesAndFeeds
 pub mod ReadableLines

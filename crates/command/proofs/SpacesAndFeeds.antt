@@ -1,13 +1,14 @@
 -- A text of bytes that are greater than a space is one field, and one whose bytes are greater than a line feed is one line: splitting takes it whole.
 -- Assumes nothing.
-use mathlib.Core.Path.{_≡_, refl, sym, ap, _∙_}
+use mathlib.Core.Path.{_≡_, refl, ap, _∙_}
 use mathlib.Core.List.{List, [], _∷_, _++_, flatMap, append-nil}
 use Prim.Native.Nat.{ℕ, _<_}
 use native.Mathlib.Omega.{arith}
 use borrow.Author.Tests.{ne-eqb}
 use lib.Seq.{append-snoc}
 use Rattle.command.specs.Grammar.{fieldsOf}
-use Rattle.command.specs.Lines.{linesAfter, linesOf}
+use Rattle.command.specs.Lines.{linesOf, NoFeed}
+use Rattle.command.proofs.LinesOf.{lines-ended}
 
 -- each byte is greater than a space or, with n = 10, than a line feed
 abbrev pub Above : ℕ → List ℕ → Type 0
@@ -34,14 +35,12 @@ field-first [] rest p = refl
 field-first (b ∷ l) rest p = rw (ne-eqb b 32 (λ e. omega (arith, p .0)), field-first l rest (p .1))
 
 -- a line ends at a line feed
-line-on : (begun l rest : List ℕ) → Above 10 l → linesAfter begun (l ++ 10 ∷ rest) ≡ (begun ++ l) ∷ linesAfter [] rest
-unfolding linesAfter
-line-on begun [] rest p = ap (λ (m : List ℕ). m ∷ linesAfter [] rest) (sym (append-nil begun))
-line-on begun (b ∷ l) rest p =
-    rw (ne-eqb b 10 (λ e. omega (arith, p .0))) (line-on (begun ++ b ∷ []) l rest (p .1) ∙ ap (λ (m : List ℕ). m ∷ linesAfter [] rest) (append-snoc begun b l))
+above-feedless : (l : List ℕ) → Above 10 l → NoFeed l
+above-feedless [] p = tt
+above-feedless (b ∷ l) p = ((λ e. omega (arith, p .0, e)), above-feedless l (p .1))
 
 pub line-first : (l rest : List ℕ) → Above 10 l → linesOf ((l ++ 10 ∷ []) ++ rest) ≡ l ∷ linesOf rest
-line-first l rest p = ap (linesAfter []) (append-snoc l 10 rest) ∙ line-on [] l rest p
+line-first l rest p = ap linesOf (append-snoc l 10 rest) ∙ lines-ended l rest (above-feedless l p)
 
 -- fields that each stand after a space
 abbrev pub AllAbove : ℕ → List (List ℕ) → Type 0

@@ -2,7 +2,7 @@
 -- are the only ones, and splitting there gives the numbers back.
 -- Assumes nothing.
 use mathlib.Core.Path.{_≡_, refl, sym, ap, _∙_, subst}
-use mathlib.Core.Bool.{Bool, true, false, cond}
+use mathlib.Core.Bool.{Bool, true, false}
 use mathlib.Core.List.{List, [], _∷_, _++_, map, flatMap, append-nil, append-assoc}
 use Prim.Native.Nat.{ℕ, _+_, _<_}
 use native.Mathlib.Omega.{arith}
@@ -24,7 +24,7 @@ use Rattle.planner.proofs.Histories.{history-agrees, rows-demanded}
 use Rattle.planner.proofs.ShownRows.{shown-rows}
 use Rattle.command.specs.declared.Session.{Session}
 use Rattle.command.specs.Decimal.{digitsIn, decimal, signedText}
-use Rattle.command.specs.Grammar.{inFirst, fieldsOf, valuesOf, numbersTaken, commandWith, byLetter, commandOf}
+use Rattle.command.specs.Grammar.{fieldsOf, valuesOf, numbersTaken, commandWith, byLetter, commandOf}
 use Rattle.command.specs.Text.{spaced, countText, refusalText, idText, idsText, rowText, rowsText, tableBy, tableText}
 use Rattle.command.specs.Sessions.{freshSession, outcome, answered}
 use Rattle.command.specs.Lines.{linesAfter, linesOf}

@@ -1,6 +1,6 @@
 -- `R 11` is printed exactly for a line that cannot be read: each other refusal of a command has a number of one digit, and each other text has another first byte or another length.
 -- Assumes nothing.
-use mathlib.Core.Path.{_≡_, refl, ap, _∙_}
+use mathlib.Core.Path.{_≡_, refl, ap}
 use mathlib.Core.Bool.{Bool, true, false, cond}
 use mathlib.Core.List.{List, [], _∷_, _++_, flatMap}
 use mathlib.Core.Logic.{_⊎_, _↔_, Iff·trans, ⊎-elim}
