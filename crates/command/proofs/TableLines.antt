@@ -2,26 +2,26 @@
 -- are the only ones, and splitting there gives the numbers back.
 -- Assumes nothing.
 use mathlib.Core.Path.{_≡_, refl, sym, ap, _∙_, subst}
-use mathlib.Core.Bool.{Bool, true, false}
+use mathlib.Core.Bool.{Bool, true, false, cond}
 use mathlib.Core.List.{List, [], _∷_, _++_, map, flatMap, append-nil, append-assoc}
 use Prim.Native.Nat.{ℕ, _+_, _<_}
 use native.Mathlib.Omega.{arith}
 use lib.IntN.{pos}
 use lib.ListN.{length, getD, length-append, length-map, List·getD-append}
-use lib.Seq.{getD-at}
+use lib.Seq.{getD-at, take-at}
+use Rattle.time_table.specs.Rows.{rowsOf}
 use Rattle.sweep.proofs.Placed.{get-map}
 use Rattle.planner.specs.declared.Plan.{Plan}
 use Rattle.planner.specs.declared.RowRecord.{RowRecord}
 use Rattle.planner.specs.declared.Rows.{Rows}
 use Rattle.planner.specs.declared.Checked.{Checked}
 use Rattle.planner.specs.declared.Refusal.the-variants.{Stale}
-use Rattle.planner.specs.Records.{idsOf, noRecord}
+use Rattle.planner.specs.Records.{recordOf, idsOf, noRecord}
 use Rattle.planner.specs.Answers.{freshPlan}
-use Rattle.planner.specs.Questions.{rowsShown, shownRows}
+use Rattle.planner.specs.Questions.{rowsWith, rowsShown, shownRows}
 use Rattle.planner.specs.History.{Call, planAfter}
 use Rattle.planner.proofs.Numbers.{rows-refused-9, rows-accepted-when}
-use Rattle.planner.proofs.Histories.{history-agrees, rows-demanded}
-use Rattle.planner.proofs.ShownRows.{shown-rows}
+use Rattle.planner.proofs.Histories.{rows-demanded}
 use Rattle.command.specs.declared.Session.{Session}
 use Rattle.command.specs.Decimal.{digitsIn, decimal, signedText}
 use Rattle.command.specs.Grammar.{fieldsOf, valuesOf, numbersTaken, commandWith, byLetter, commandOf}
@@ -118,7 +118,15 @@ module _ (calls : List Call) where
   shown = rowsShown plan
 
   counts : shown .count ≡ length (shownRows shown)
-  counts = shown-rows plan (history-agrees calls .sound) .held .counts
+  unfolding rowsShown
+  counts = go (plan .live)
+    where
+      table : List RowRecord
+      table = map recordOf (rowsOf (plan .table))
+
+      go : (live : Bool) → (let r = cond live (rowsWith Checked.Accepted table) (rowsWith (Checked.Refused Stale) []) in r .count ≡ length (shownRows r))
+      go true = ap length (sym (take-at table _ (length table) refl))
+      go false = refl
 
   -- a table that is accepted, and one that is refused
   accepted : shown .answer ≡ Checked.Accepted → ListsRows (shownRows shown) (tableText shown)
