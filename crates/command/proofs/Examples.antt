@@ -55,29 +55,7 @@ too-many : commandOf (76 ∷ 32 ∷ 53 ∷ 32 ∷ 53 ∷ []) ≡ Unreadable
 unfolding commandOf fieldsOf valuesOf byLetter commandWith numbersTaken numberOf signedOf magnitudeFrom isDigit
 too-many = refl
 
--- a number too few, a small letter, a letter without its space
-too-few : commandOf (85 ∷ 32 ∷ 53 ∷ 32 ∷ 53 ∷ []) ≡ Unreadable
-unfolding commandOf fieldsOf valuesOf byLetter commandWith numbersTaken numberOf signedOf magnitudeFrom isDigit
-too-few = refl
-
-small-letter : commandOf (116 ∷ []) ≡ Unreadable
-unfolding commandOf fieldsOf valuesOf byLetter commandWith numbersTaken
-small-letter = refl
-
-no-space : commandOf (76 ∷ 53 ∷ []) ≡ Unreadable
-unfolding commandOf fieldsOf
-no-space = refl
-
--- a minus alone is no number, and neither are the eleven digits 00000000005
-minus-alone : numberOf (45 ∷ []) ≡ Number.Bad
-unfolding numberOf signedOf
-minus-alone = refl
-
-eleven-digits : numberOf (48 ∷ 48 ∷ 48 ∷ 48 ∷ 48 ∷ 48 ∷ 48 ∷ 48 ∷ 48 ∷ 48 ∷ 53 ∷ []) ≡ Number.Bad
-unfolding numberOf signedOf magnitudeFrom isDigit
-eleven-digits = refl
-
--- the ends of the range: -2147483648 and 2147483647 are numbers, and 2147483648 and -2147483649 are none
+-- the ends of the range: -2147483648 and 2147483647 are numbers, and 2147483648 is none
 least : numberOf (45 ∷ 50 ∷ 49 ∷ 52 ∷ 55 ∷ 52 ∷ 56 ∷ 51 ∷ 54 ∷ 52 ∷ 56 ∷ []) ≡ Number.Is (negsuc 2147483647)
 unfolding numberOf signedOf magnitudeFrom isDigit
 least = refl
@@ -89,10 +67,6 @@ greatest = refl
 past : numberOf (50 ∷ 49 ∷ 52 ∷ 55 ∷ 52 ∷ 56 ∷ 51 ∷ 54 ∷ 52 ∷ 56 ∷ []) ≡ Number.Bad
 unfolding numberOf signedOf magnitudeFrom isDigit
 past = refl
-
-past-least : numberOf (45 ∷ 50 ∷ 49 ∷ 52 ∷ 55 ∷ 52 ∷ 56 ∷ 51 ∷ 54 ∷ 52 ∷ 57 ∷ []) ≡ Number.Bad
-unfolding numberOf signedOf magnitudeFrom isDigit
-past-least = refl
 
 -- `3 3 5 1 0`, `O -5 20 7`, `E 12`, `E 128`, `S -10`, `N`, and `R` with each number that the program gives
 row : rowText (record { start = pos 3; end = pos 3; height = 5; ids = pad 32 0 (1 ∷ 0 ∷ []); count = 2 }) ≡ 51 ∷ 32 ∷ 51 ∷ 32 ∷ 53 ∷ 32 ∷ 49 ∷ 32 ∷ 48 ∷ 10 ∷ []

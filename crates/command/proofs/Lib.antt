@@ -8,7 +8,12 @@ pub mod FieldNumbers
 pub mod LineBytes
 pub mod CommandOutcomes
 pub mod ServedLines
+pub mod LinesOf
 pub mod Transcript
+pub mod SpacesAndFeeds
+pub mod ReadableLines
+pub mod PrintedNumbers
+pub mod PrintedAnswers
 pub mod Calls
 pub mod TableLines
 pub mod Unreadable

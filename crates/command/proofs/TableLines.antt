@@ -4,134 +4,80 @@
 use mathlib.Core.Path.{_≡_, refl, sym, ap, _∙_, subst}
 use mathlib.Core.Bool.{Bool, true, false, cond}
 use mathlib.Core.List.{List, [], _∷_, _++_, map, flatMap, append-nil, append-assoc}
-use Prim.Native.Nat.{ℕ, zero, suc, _+_, _-_, _/_, _%_, _≤_, _<_}
+use Prim.Native.Nat.{ℕ, _+_, _<_}
 use native.Mathlib.Omega.{arith}
-use borrow.Author.Tests.{ne-eqb}
-use lib.Dec.{ltb}
-use lib.IntN.{ℤ, pos, negsuc}
+use lib.IntN.{pos}
 use lib.ListN.{length, getD, length-append, length-map, List·getD-append}
-use lib.Seq.{append-snoc, getD-at}
+use lib.Seq.{getD-at, take-at}
+use Rattle.time_table.specs.Rows.{rowsOf}
 use Rattle.sweep.proofs.Placed.{get-map}
 use Rattle.planner.specs.declared.Plan.{Plan}
 use Rattle.planner.specs.declared.RowRecord.{RowRecord}
 use Rattle.planner.specs.declared.Rows.{Rows}
 use Rattle.planner.specs.declared.Checked.{Checked}
 use Rattle.planner.specs.declared.Refusal.the-variants.{Stale}
-use Rattle.planner.specs.Records.{idsOf, noRecord}
+use Rattle.planner.specs.Records.{recordOf, idsOf, noRecord}
 use Rattle.planner.specs.Answers.{freshPlan}
-use Rattle.planner.specs.Questions.{rowsShown, shownRows}
+use Rattle.planner.specs.Questions.{rowsWith, rowsShown, shownRows}
 use Rattle.planner.specs.History.{Call, planAfter}
 use Rattle.planner.proofs.Numbers.{rows-refused-9, rows-accepted-when}
-use Rattle.planner.proofs.Histories.{history-agrees, rows-demanded}
-use Rattle.planner.proofs.ShownRows.{shown-rows}
+use Rattle.planner.proofs.Histories.{rows-demanded}
 use Rattle.command.specs.declared.Session.{Session}
 use Rattle.command.specs.Decimal.{digitsIn, decimal, signedText}
-use Rattle.command.specs.Grammar.{inFirst, fieldsOf, valuesOf, numbersTaken, commandWith, byLetter, commandOf}
+use Rattle.command.specs.Grammar.{fieldsOf, valuesOf, numbersTaken, commandWith, byLetter, commandOf}
 use Rattle.command.specs.Text.{spaced, countText, refusalText, idText, idsText, rowText, rowsText, tableBy, tableText}
 use Rattle.command.specs.Sessions.{freshSession, outcome, answered}
 use Rattle.command.specs.Lines.{linesAfter, linesOf}
 use Rattle.command.specs.Calls.{sessionAfter, callsOf}
-use Rattle.command.specs.TableLines.{rowFields, ListsRows, PrintedByT, refused-9, listed}
+use Rattle.command.specs.PrintedNumbers.{SpellsAll, none, more, LetterLine, Ended}
+use Rattle.command.specs.TableLines.{rowNumbers, ListsRows, PrintedByT, refused-9, listed}
+use Rattle.command.proofs.SpacesAndFeeds.{Above, above-append, above-less, fields-joined, line-first}
+use Rattle.command.proofs.PrintedNumbers.{decimal-spells, signed-spells, ids-spell, spells-above, all-above, afterSpace, spaces-above, last-byte, letter-line}
 use Rattle.command.proofs.Calls.{plan-after-lines}
 
--- each byte is greater than a space or, with n = 10, than a line feed
-abbrev Above : ℕ → List ℕ → Type 0
-Above n [] = Unit {0}
-Above n (b ∷ bs) = (n < b) × Above n bs
-
-above-append : (n : ℕ) (l m : List ℕ) → Above n l → Above n m → Above n (l ++ m)
-above-append n [] m p q = q
-above-append n (b ∷ l) m p q = (p .0, above-append n l m (p .1) q)
-
-above-less : (l : List ℕ) → Above 32 l → Above 10 l
-above-less [] p = tt
-above-less (b ∷ l) p = (omega (arith, p .0), above-less l (p .1))
-
--- the bytes of a number are
-digits-above : (room n : ℕ) → Above 32 (digitsIn room n)
-unfolding digitsIn
-digits-above zero n = tt
-digits-above (suc room) n = go (ltb n 10) (digits-above room (n / 10))
-  where
-    go : (small : Bool) → Above 32 (digitsIn room (n / 10)) → Above 32 (cond small ((48 + n) ∷ []) (digitsIn room (n / 10) ++ (48 + n % 10) ∷ []))
-    go true front = (omega arith, tt)
-    go false front = above-append 32 (digitsIn room (n / 10)) _ front (omega arith, tt)
-
-decimal-above : (n : ℕ) → Above 32 (decimal n)
-unfolding decimal
-decimal-above n = digits-above (suc n) n
-
-signed-above : (z : ℤ) → Above 32 (signedText z)
-unfolding signedText
-signed-above (pos n) = decimal-above n
-signed-above (negsuc n) = (omega arith, decimal-above (suc n))
-
--- the first field ends at a space, and the last with the line
-field-last : (l : List ℕ) → Above 32 l → fieldsOf l ≡ l ∷ []
-unfolding fieldsOf
-field-last [] p = refl
-field-last (b ∷ l) p = rw (ne-eqb b 32 (λ e. omega (arith, p .0)), field-last l (p .1))
-
-field-first : (l rest : List ℕ) → Above 32 l → fieldsOf (l ++ 32 ∷ rest) ≡ l ∷ fieldsOf rest
-unfolding fieldsOf
-field-first [] rest p = refl
-field-first (b ∷ l) rest p = rw (ne-eqb b 32 (λ e. omega (arith, p .0)), field-first l rest (p .1))
-
--- a line ends at a line feed
-line-on : (begun l rest : List ℕ) → Above 10 l → linesAfter begun (l ++ 10 ∷ rest) ≡ (begun ++ l) ∷ linesAfter [] rest
-unfolding linesAfter
-line-on begun [] rest p = ap (λ (m : List ℕ). m ∷ linesAfter [] rest) (sym (append-nil begun))
-line-on begun (b ∷ l) rest p =
-    rw (ne-eqb b 10 (λ e. omega (arith, p .0))) (line-on (begun ++ b ∷ []) l rest (p .1) ∙ ap (λ (m : List ℕ). m ∷ linesAfter [] rest) (append-snoc begun b l))
-
-line-first : (l rest : List ℕ) → Above 10 l → linesOf ((l ++ 10 ∷ []) ++ rest) ≡ l ∷ linesOf rest
-line-first l rest p = ap (linesAfter []) (append-snoc l 10 rest) ∙ line-on [] l rest p
-
--- a row's line, and the last line
+-- a row's line is its fields, each but the first after a space
 abbrev rowLine : RowRecord → List ℕ
 rowLine r = signedText (r .start) ++ spaced (signedText (r .end)) ++ spaced (decimal (r .height)) ++ idsText (idsOf r)
 
-abbrev endLine : ℕ → List ℕ
-endLine n = (69 ∷ []) ++ spaced (decimal n)
+abbrev behindStart : RowRecord → List (List ℕ)
+behindStart r = signedText (r .end) ∷ decimal (r .height) ∷ map decimal (idsOf r)
 
-ids-fields : (l : List ℕ) (ids : List ℕ) → Above 32 l → fieldsOf (l ++ idsText ids) ≡ l ∷ map decimal ids
+ids-behind : (ids : List ℕ) → idsText ids ≡ flatMap afterSpace (map decimal ids)
 unfolding flatMap
-ids-fields l [] p = ap fieldsOf (append-nil l) ∙ field-last l p
-ids-fields l (i ∷ ids) p = field-first l (decimal i ++ idsText ids) p ∙ ap (λ (fs : List (List ℕ)). l ∷ fs) (ids-fields (decimal i) ids (decimal-above i))
+ids-behind [] = refl
+ids-behind (i ∷ ids) = ap (λ (l : List ℕ). idText i ++ l) (ids-behind ids)
 
-row-fields : (r : RowRecord) → fieldsOf (rowLine r) ≡ rowFields r
+row-line : (r : RowRecord) → rowLine r ≡ signedText (r .start) ++ flatMap afterSpace (behindStart r)
+unfolding flatMap
+row-line r = rw (← (ids-behind (idsOf r))) (simp append-assoc)
+
+row-spelled : (r : RowRecord) → SpellsAll (signedText (r .start) ∷ behindStart r) (rowNumbers r)
+row-spelled r = more (signed-spells (r .start)) (more (signed-spells (r .end)) (more (decimal-spells (r .height)) (ids-spell (idsOf r))))
+
+row-fields : (r : RowRecord) → fieldsOf (rowLine r) ≡ signedText (r .start) ∷ behindStart r
 row-fields r =
-    let s = signedText (r .start) in
-    let e = signedText (r .end) in
-    let behind = decimal (r .height) ++ idsText (idsOf r) in
-    ap fieldsOf (append-assoc (s ++ spaced e) (spaced (decimal (r .height))) (idsText (idsOf r)) ∙ append-assoc s (spaced e) (32 ∷ behind))
-    ∙ field-first s (e ++ 32 ∷ behind) (signed-above (r .start))
-    ∙ ap (λ (fs : List (List ℕ)). s ∷ fs) (
-    field-first e behind (signed-above (r .end)) ∙ ap (λ (fs : List (List ℕ)). e ∷ fs) (ids-fields (decimal (r .height)) (idsOf r) (decimal-above (r .height))))
-
-end-fields : (n : ℕ) → fieldsOf (endLine n) ≡ (69 ∷ []) ∷ decimal n ∷ []
-end-fields n = field-first (69 ∷ []) (decimal n) (omega arith, tt) ∙ ap (λ (fs : List (List ℕ)). (69 ∷ []) ∷ fs) (field-last (decimal n) (decimal-above n))
-
--- neither has a line feed in it
-spaced-above : (l : List ℕ) → Above 32 l → Above 10 (spaced l)
-spaced-above l p = (omega arith, above-less l p)
-
-ids-above : (ids : List ℕ) → Above 10 (idsText ids)
-unfolding flatMap
-ids-above [] = tt
-ids-above (i ∷ ids) = above-append 10 (idText i) (idsText ids) (spaced-above (decimal i) (decimal-above i)) (ids-above ids)
+    let above = all-above (row-spelled r) in
+    ap fieldsOf (row-line r) ∙ fields-joined (signedText (r .start)) (behindStart r) (above .0) (above .1)
 
 row-above : (r : RowRecord) → Above 10 (rowLine r)
 row-above r =
+    let above = all-above (row-spelled r) in
     let s = signedText (r .start) in
-    let e = spaced (signedText (r .end)) in
-    let h = spaced (decimal (r .height)) in
-    let bounds : Above 10 (s ++ e) = above-append 10 s e (above-less s (signed-above (r .start))) (spaced-above (signedText (r .end)) (signed-above (r .end))) in
-    let numbers : Above 10 (s ++ e ++ h) = above-append 10 (s ++ e) h bounds (spaced-above (decimal (r .height)) (decimal-above (r .height))) in
-    above-append 10 (s ++ e ++ h) (idsText (idsOf r)) numbers (ids-above (idsOf r))
+    rw (row-line r) (above-append 10 s (flatMap afterSpace (behindStart r)) (above-less s (above .0)) (spaces-above (behindStart r) (above .1)))
+
+-- and the last line is `E` and a number
+abbrev endLine : ℕ → List ℕ
+endLine n = (69 ∷ []) ++ spaced (decimal n)
+
+end-says : (n : ℕ) → LetterLine 69 (pos n ∷ []) (endLine n)
+unfolding flatMap
+end-says n = rw (← (append-nil (decimal n))) (letter-line 69 (omega arith) (more (decimal-spells n) none))
 
 end-above : (n : ℕ) → Above 10 (endLine n)
-end-above n = (omega arith, spaced-above (decimal n) (decimal-above n))
+end-above n =
+    let d : Above 32 (decimal n) = spells-above (decimal-spells n) in
+    let after : Above 10 (spaced (decimal n)) = (omega arith, above-less (decimal n) d) in
+    (omega arith, after)
 
 -- the lines of a whole table
 table-lines : (rows : List RowRecord) (n : ℕ) → linesOf (rowsText rows ++ countText 69 n) ≡ map rowLine rows ++ endLine n ∷ []
@@ -142,27 +88,26 @@ table-lines (r ∷ rows) n =
     ∙ line-first (rowLine r) (rowsText rows ++ countText 69 n) (row-above r)
     ∙ ap (λ (ls : List (List ℕ)). rowLine r ∷ ls) (table-lines rows n)
 
-last-byte : (l : List ℕ) (b : ℕ) → getD (l ++ b ∷ []) (length (l ++ b ∷ []) - 1) 0 ≡ b
-last-byte l b = getD-at l b [] 0 (length (l ++ b ∷ []) - 1) (rw length-append (omega arith))
-
 module _ (rows : List RowRecord) (n : ℕ) (counted : n ≡ length rows) where
   abbrev text : List ℕ
   text = rowsText rows ++ countText 69 n
+
+  row-there : (k : ℕ) → k < length rows → getD (linesOf text) k [] ≡ rowLine (getD rows k noRecord)
+  row-there k h =
+      ap (λ (ls : List (List ℕ)). getD ls k []) (table-lines rows n)
+      ∙ List·getD-append (map rowLine rows) (endLine n ∷ []) [] k (omega (arith, length-map rows rowLine)) ∙ get-map rowLine noRecord [] rows k h
+
+  end-there : getD (linesOf text) (length rows) [] ≡ endLine n
+  end-there = ap (λ (ls : List (List ℕ)). getD ls (length rows) []) (table-lines rows n) ∙ getD-at (map rowLine rows) (endLine n) [] [] (length rows) (length-map rows rowLine)
 
   lists-rows : ListsRows rows text
   unfolding countText
   lists-rows =
       record {
         count = ap length (table-lines rows n) ∙ length-append (map rowLine rows) (endLine n ∷ []) ∙ ap (λ (m : ℕ). m + 1) (length-map rows rowLine);
-        row = λ k h.
-            ap (λ (ls : List (List ℕ)). fieldsOf (getD ls k [])) (table-lines rows n)
-            ∙ ap fieldsOf (List·getD-append (map rowLine rows) (endLine n ∷ []) [] k (omega (arith, length-map rows rowLine)) ∙ get-map rowLine noRecord [] rows k h)
-            ∙ row-fields (getD rows k noRecord);
-        last =
-            ap (λ (ls : List (List ℕ)). fieldsOf (getD ls (length rows) [])) (table-lines rows n)
-            ∙ ap fieldsOf (getD-at (map rowLine rows) (endLine n) [] [] (length rows) (length-map rows rowLine))
-            ∙ end-fields n ∙ ap (λ (m : ℕ). (69 ∷ []) ∷ decimal m ∷ []) counted;
-        ended = ap (λ (l : List ℕ). getD l (length l - 1) 0) (sym (append-assoc (rowsText rows) (endLine n) (10 ∷ []))) ∙ last-byte (rowsText rows ++ endLine n) 10;
+        row = λ k h. let r = getD rows k noRecord in subst (λ (fs : List (List ℕ)). SpellsAll fs (rowNumbers r)) (sym (ap fieldsOf (row-there k h) ∙ row-fields r)) (row-spelled r);
+        last = rw (end-there, ← counted) (end-says n);
+        ended = subst Ended (append-assoc (rowsText rows) (endLine n) (10 ∷ [])) (last-byte (rowsText rows ++ endLine n));
       }
 
 module _ (calls : List Call) where
@@ -173,7 +118,15 @@ module _ (calls : List Call) where
   shown = rowsShown plan
 
   counts : shown .count ≡ length (shownRows shown)
-  counts = shown-rows plan (history-agrees calls .sound) .held .counts
+  unfolding rowsShown
+  counts = go (plan .live)
+    where
+      table : List RowRecord
+      table = map recordOf (rowsOf (plan .table))
+
+      go : (live : Bool) → (let r = cond live (rowsWith Checked.Accepted table) (rowsWith (Checked.Refused Stale) []) in r .count ≡ length (shownRows r))
+      go true = ap length (sym (take-at table _ (length table) refl))
+      go false = refl
 
   -- a table that is accepted, and one that is refused
   accepted : shown .answer ≡ Checked.Accepted → ListsRows (shownRows shown) (tableText shown)

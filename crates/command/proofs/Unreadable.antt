@@ -1,9 +1,9 @@
 -- `R 11` is printed exactly for a line that cannot be read: each other refusal of a command has a number of one digit, and each other text has another first byte or another length.
 -- Assumes nothing.
-use mathlib.Core.Path.{_≡_, refl, ap, _∙_}
+use mathlib.Core.Path.{_≡_, refl, ap}
 use mathlib.Core.Bool.{Bool, true, false, cond}
 use mathlib.Core.List.{List, [], _∷_, _++_, flatMap}
-use mathlib.Core.Logic.{_⊎_, _↔_, ⊎-elim}
+use mathlib.Core.Logic.{_⊎_, _↔_, Iff·trans, ⊎-elim}
 use Prim.Native.Nat.{ℕ, _<_}
 use native.Mathlib.Omega.{arith}
 use lib.Dec.{ltb}
@@ -21,8 +21,10 @@ use Rattle.command.specs.declared.Session.{Session}
 use Rattle.command.specs.declared.Command.{Command}
 use Rattle.command.specs.Decimal.{digitsIn, decimal}
 use Rattle.command.specs.Grammar.{commandOf}
+use Rattle.command.specs.ReadableLines.{Says}
 use Rattle.command.specs.Text.{countText, refusalText, overloadText, answerText, startText, fitText, rowText, rowsText, tableBy, tableText}
 use Rattle.command.specs.Sessions.{Outcome, outcome, answered}
+use Rattle.command.proofs.ReadableLines.{unreadable-exactly}
 use Rattle.command.proofs.DecimalDigits.{decimal-one}
 use Rattle.command.proofs.TextLengths.{count-length}
 
@@ -85,6 +87,9 @@ module _ (s : Session) where
   only-unreadable Command.Rows e = absurd (table-other _ (rowsShown (s .plan)) (λ why h. omega (arith, rows-numbers (s .plan) why h)) e)
   only-unreadable Command.Unreadable e = refl
 
-  pub line-refused-11 : (line : List ℕ) → (answered s line .text ≡ 82 ∷ 32 ∷ 49 ∷ 49 ∷ 10 ∷ []) ↔ (commandOf line ≡ Command.Unreadable)
+  -- the line says nothing: no letter with its numbers is put together so
+  pub line-refused-11 : (line : List ℕ) → (answered s line .text ≡ 82 ∷ 32 ∷ 49 ∷ 49 ∷ 10 ∷ []) ↔ ((c : Command) → ¬ Says line c)
   unfolding outcome
-  line-refused-11 line = (λ e. only-unreadable (commandOf line) e, λ h. rw h r-11-is)
+  line-refused-11 line =
+      let unreadable : (answered s line .text ≡ r-11) ↔ (commandOf line ≡ Command.Unreadable) = (λ e. only-unreadable (commandOf line) e, λ h. rw h r-11-is) in
+      Iff·trans unreadable (unreadable-exactly line)

@@ -1,10 +1,13 @@
 pub mod Decimal
 pub mod Numbers
 pub mod Grammar
+pub mod ReadableLines
 pub mod Text
 pub mod Written
 pub mod Sessions
 pub mod Lines
+pub mod PrintedNumbers
+pub mod PrintedAnswers
 pub mod Calls
 pub mod TableLines
 pub mod Listing

@@ -26,6 +26,16 @@ linesAfter line (b ∷ bs) = cond (eqb b 10) (line ∷ linesAfter [] bs) (linesA
 abbrev pub linesOf : List ℕ → List (List ℕ)
 linesOf bytes = linesAfter [] bytes
 
+-- the same, put together: each line has no line feed in it and ends at one; the last may lack its own, and then has a byte
+abbrev pub NoFeed : List ℕ → Type 0
+NoFeed [] = Unit {0}
+NoFeed (b ∷ bs) = (¬ (b ≡ 10)) × NoFeed bs
+
+pub data LinesAre : List ℕ → List (List ℕ) → Type 0 where
+  over : LinesAre [] []
+  rest : {b : ℕ} {bs : List ℕ} → NoFeed (b ∷ bs) → LinesAre (b ∷ bs) ((b ∷ bs) ∷ [])
+  ends : {l bytes : List ℕ} {lines : List (List ℕ)} → NoFeed l → LinesAre bytes lines → LinesAre (l ++ 10 ∷ bytes) (l ∷ lines)
+
 -- what a session prints for some lines
 unfoldable pub printed : Session → List (List ℕ) → List ℕ
 printed s [] = []

@@ -26,8 +26,11 @@ ranged minus (Magnitude.Is n) = within minus n
 ranged minus Magnitude.Bad = Number.Bad
 
 -- 1 to 10 digits after a sign
+abbrev pub mostDigits : ℕ
+mostDigits = 10
+
 unfoldable pub signedOf : Bool → List ℕ → Number
-signedOf minus bs = cond (leb 1 (length bs) && leb (length bs) 10) (ranged minus (magnitudeFrom 0 bs)) Number.Bad
+signedOf minus bs = cond (leb 1 (length bs) && leb (length bs) mostDigits) (ranged minus (magnitudeFrom 0 bs)) Number.Bad
 
 unfoldable pub numberOf : List ℕ → Number
 numberOf [] = Number.Bad

@@ -2,12 +2,17 @@
 ghost use mathlib.Core.Path.{_≡_};
 ghost use Prim.Native.Nat.{_≤_};
 ghost use lib.ListN.{length};
-ghost use Rattle.command.specs.Numbers.{magnitudeFrom, within, signedOf, numberOf};
+ghost use Rattle.command.specs.Numbers.{magnitudeFrom, within, mostDigits, signedOf, numberOf};
 
 // A number that was read, or none.
 pub enum Number {
     Is(i32),
     Bad,
+}
+
+impl Number {
+    // The most digits that a number may have.
+    pub const DIGITS: usize = 10;
 }
 
 // What some digits say, or that there is a byte among them that is none.
@@ -23,9 +28,9 @@ fn wide(byte: u8) -> u64
     byte as u64
 }
 
-// The number that at most ten digits say.
+// The number that at most `Number::DIGITS` digits say.
 pub(crate) fn magnitude_of(digits: &[u8]) -> Magnitude
-    requires { ⌜ length (now digits) ≤ 10 ⌝ }
+    requires { ⌜ length (now digits) ≤ mostDigits ⌝ }
     ensures { λ r. ⌜ r ≡ magnitudeFrom 0 (now (digits .entry)) ⌝ }
 {
     let mut value: u64 = 0;
@@ -60,14 +65,14 @@ pub(crate) fn ranged(minus: bool, magnitude: u64) -> Number
     Number::Bad
 }
 
-// The number of one to ten digits after its sign.
+// The number of 1 to `Number::DIGITS` digits after its sign.
 pub(crate) fn signed(minus: bool, digits: &[u8]) -> Number
     ensures { λ r. ⌜ r ≡ signedOf minus (now (digits .entry)) ⌝ }
 {
     if digits.len() < 1 {
         return Number::Bad;
     }
-    if 10 < digits.len() {
+    if Number::DIGITS < digits.len() {
         return Number::Bad;
     }
     let found = magnitude_of(digits);
