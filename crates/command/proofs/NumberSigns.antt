@@ -8,10 +8,10 @@ use native.Mathlib.Omega.{arith}
 use borrow.Author.Tests.{ltb-true}
 use lib.IntN.{ℤ, pos, negsuc, negℤ, natAbs, _-ℤ_, +ℤ-idl}
 use lib.Signed.{mag, ltZ}
-use Rattle.command.specs.Decimal.{decimal, signedText}
+use Rattle.command.specs.Decimal.{decimal, minusSign, signedText}
 
 -- the text of a negative number, and of another
-pub signed-minus : (z : ℤ) → ltZ z (pos 0) ≡ true → signedText z ≡ (45 ∷ []) ++ decimal (natAbs z)
+pub signed-minus : (z : ℤ) → ltZ z (pos 0) ≡ true → signedText z ≡ (minusSign ∷ []) ++ decimal (natAbs z)
 unfolding signedText
 signed-minus (pos n) h = absurd (omega (arith, ltb-true n 0 h))
 signed-minus (negsuc n) h = refl

@@ -14,7 +14,10 @@ digitsIn (suc room) n = cond (ltb n 10) ((48 + n) ∷ []) (digitsIn room (n / 10
 unfoldable pub decimal : ℕ → List ℕ
 decimal n = digitsIn (suc n) n
 
--- a number with its sign
+-- a number with its sign: a minus where it is negative
+abbrev pub minusSign : ℕ
+minusSign = 45
+
 unfoldable pub signedText : ℤ → List ℕ
 signedText (pos n) = decimal n
-signedText (negsuc n) = 45 ∷ decimal (suc n)
+signedText (negsuc n) = minusSign ∷ decimal (suc n)

@@ -1,6 +1,6 @@
 -- The text of answers: decimal numbers with their sign, single spaces, one line feed a line.
 use mathlib.Core.List.{List, [], _∷_, _++_, flatMap}
-use Prim.Native.Nat.{ℕ}
+use Prim.Native.Nat.{ℕ, _+_, _*_}
 use lib.IntN.{ℤ}
 use Rattle.planner.specs.declared.RowRecord.{RowRecord}
 use Rattle.planner.specs.declared.Refusal.{Refusal}
@@ -69,6 +69,18 @@ tableBy (Checked.Refused why) rows = refusalText why
 unfoldable pub tableText : Rows → List ℕ
 tableText rows = tableBy (rows .answer) rows
 
--- no answer is longer
+-- the bytes that a line without ids takes at most, the ids of a row, a row, all rows, and an answer
+abbrev pub lineRoom : ℕ
+lineRoom = 64
+
+abbrev pub idsRoom : ℕ
+idsRoom = 32 * 11
+
+abbrev pub rowRoom : ℕ
+rowRoom = 400
+
+abbrev pub rowsRoom : ℕ
+rowsRoom = 128 * rowRoom
+
 abbrev pub longest : ℕ
-longest = 51300
+longest = rowsRoom + 100

@@ -5,7 +5,7 @@ ghost use Prim.Native.Nat.{_+_, _≤_};
 ghost use lib.IntN.{natAbs};
 ghost use lib.ListN.{length};
 ghost use Rattle.command.specs.Decimal.{decimal, signedText};
-ghost use Rattle.command.specs.Text.{spaced, letterText, countText, refusalText, overloadText, answerText, startText, fitText, idsText, rowText, rowsText, tableText, longest};
+ghost use Rattle.command.specs.Text.{spaced, letterText, countText, refusalText, overloadText, answerText, startText, fitText, idsText, rowText, rowsText, tableText, lineRoom, idsRoom, rowRoom, rowsRoom, longest};
 ghost use Rattle.planner.specs.Questions.{shownRows};
 ghost use Rattle.planner.specs.Records.{idsOf};
 ghost use Rattle.planner.specs.Shown.{heldIds, Shown};
@@ -99,7 +99,7 @@ pub(crate) fn put_count(out: &mut [u8], at: usize, letter: u8, n: u32) -> usize
 
 // `R` and the number of a refusal.
 pub(crate) fn put_refusal(out: &mut [u8], at: usize, why: Refusal) -> usize
-    requires { ⌜ at + 64 ≤ length (now out) ⌝ }
+    requires { ⌜ at + lineRoom ≤ length (now out) ⌝ }
     ensures { λ r. ⌜ Written (now (out .entry)) at (refusalText why) (now (out .exit)) r ⌝ }
 {
     put_count(out, at, b'R', why.number())
@@ -107,7 +107,7 @@ pub(crate) fn put_refusal(out: &mut [u8], at: usize, why: Refusal) -> usize
 
 // `O` with start, end and height.
 pub(crate) fn put_overload(out: &mut [u8], at: usize, row: RowRecord) -> usize
-    requires { ⌜ at + 64 ≤ length (now out) ⌝ }
+    requires { ⌜ at + lineRoom ≤ length (now out) ⌝ }
     ensures { λ r. ⌜ Written (now (out .entry)) at (overloadText row) (now (out .exit)) r ⌝ }
 {
     let first = put_byte(out, at, b'O');
@@ -119,7 +119,7 @@ pub(crate) fn put_overload(out: &mut [u8], at: usize, row: RowRecord) -> usize
 
 // The answer of a load or an update.
 pub(crate) fn put_answer(out: &mut [u8], at: usize, answer: Answer, row: RowRecord) -> usize
-    requires { ⌜ at + 64 ≤ length (now out) ⌝ }
+    requires { ⌜ at + lineRoom ≤ length (now out) ⌝ }
     ensures { λ r. ⌜ Written (now (out .entry)) at (answerText answer row) (now (out .exit)) r ⌝ }
 {
     match answer {
@@ -131,7 +131,7 @@ pub(crate) fn put_answer(out: &mut [u8], at: usize, answer: Answer, row: RowReco
 
 // `S` with the start.
 pub(crate) fn put_start(out: &mut [u8], at: usize, start: i32) -> usize
-    requires { ⌜ at + 64 ≤ length (now out) ⌝ }
+    requires { ⌜ at + lineRoom ≤ length (now out) ⌝ }
     ensures { λ r. ⌜ Written (now (out .entry)) at (startText start) (now (out .exit)) r ⌝ }
 {
     let first = put_byte(out, at, b'S');
@@ -141,7 +141,7 @@ pub(crate) fn put_start(out: &mut [u8], at: usize, start: i32) -> usize
 
 // The answer of a question for the first fit.
 pub(crate) fn put_fit(out: &mut [u8], at: usize, fit: FirstFit) -> usize
-    requires { ⌜ at + 64 ≤ length (now out) ⌝ }
+    requires { ⌜ at + lineRoom ≤ length (now out) ⌝ }
     ensures { λ r. ⌜ Written (now (out .entry)) at (fitText fit) (now (out .exit)) r ⌝ }
 {
     match fit {
@@ -154,9 +154,9 @@ pub(crate) fn put_fit(out: &mut [u8], at: usize, fit: FirstFit) -> usize
 // The ids of a row, each after a space.
 pub(crate) fn put_ids(out: &mut [u8], from: usize, row: RowRecord) -> usize
     requires { ⌜ heldIds row ⌝ }
-    requires { ⌜ from + 352 ≤ length (now out) ⌝ }
+    requires { ⌜ from + idsRoom ≤ length (now out) ⌝ }
     ensures { λ r. ⌜ Written (now (out .entry)) from (idsText (idsOf row)) (now (out .exit)) r ⌝ }
-    ensures { λ r. ⌜ r ≤ from + 352 ⌝ }
+    ensures { λ r. ⌜ r ≤ from + idsRoom ⌝ }
 {
     let ids = row.ids;
     let n = row.count;
@@ -172,9 +172,9 @@ pub(crate) fn put_ids(out: &mut [u8], from: usize, row: RowRecord) -> usize
 // A row: start, end, height and the ids in list order.
 pub(crate) fn put_row(out: &mut [u8], at: usize, row: RowRecord) -> usize
     requires { ⌜ heldIds row ⌝ }
-    requires { ⌜ at + 400 ≤ length (now out) ⌝ }
+    requires { ⌜ at + rowRoom ≤ length (now out) ⌝ }
     ensures { λ r. ⌜ Written (now (out .entry)) at (rowText row) (now (out .exit)) r ⌝ }
-    ensures { λ r. ⌜ r ≤ at + 400 ⌝ }
+    ensures { λ r. ⌜ r ≤ at + rowRoom ⌝ }
 {
     let first = put_signed(out, at, row.start);
     let second = put_next_signed(out, first, row.end);
@@ -186,9 +186,9 @@ pub(crate) fn put_row(out: &mut [u8], at: usize, row: RowRecord) -> usize
 // Each of the rows in its line.
 pub(crate) fn put_rows(out: &mut [u8], from: usize, rows: Rows) -> usize
     requires { ⌜ Shown rows ⌝ }
-    requires { ⌜ from + 51200 ≤ length (now out) ⌝ }
+    requires { ⌜ from + rowsRoom ≤ length (now out) ⌝ }
     ensures { λ r. ⌜ Written (now (out .entry)) from (rowsText (shownRows rows)) (now (out .exit)) r ⌝ }
-    ensures { λ r. ⌜ r ≤ from + 51200 ⌝ }
+    ensures { λ r. ⌜ r ≤ from + rowsRoom ⌝ }
 {
     let n = rows.count;
     let mut at = from;

@@ -7,7 +7,7 @@ use lib.ListN.{length}
 use mir.Syntax.{w32}
 use mir.Val.{toZ, ofZ}
 use mir.Facts.{toZ-ofZ}
-use Rattle.command.specs.Decimal.{decimal, signedText}
+use Rattle.command.specs.Decimal.{decimal, minusSign, signedText}
 use Rattle.command.proofs.WrittenText.{written-length, written-more}
 use Rattle.command.proofs.NumberSigns.{signed-minus, signed-plain}
 use borrow.Author.Needs.{needs}
@@ -18,7 +18,7 @@ use Rattle.command.proofs.text.put_signed.Tie as tie
 read : (s : tie.Start) → toZ w32 (ofZ w32 (s .args .x)) ≡ s .args .x
 read s = toZ-ofZ (s .fits .x)
 
-minus : (c : tie.Then1) → signedText (c .before .before .args .x) ≡ (45 ∷ []) ++ decimal (natAbs (c .before .before .args .x))
+minus : (c : tie.Then1) → signedText (c .before .before .args .x) ≡ (minusSign ∷ []) ++ decimal (natAbs (c .before .before .args .x))
 minus c = signed-minus _ (rw (read (c .before .before)) at (c .if1 .taken))
 
 plain : (c : tie.Else1) → signedText (c .before .before .args .x) ≡ decimal (natAbs (c .before .before .args .x))
