@@ -16,10 +16,12 @@ use Rattle.planner.specs.declared.RowRecord.{RowRecord}
 use Rattle.planner.specs.declared.Rows.{Rows}
 use Rattle.planner.specs.declared.Checked.{Checked}
 use Rattle.planner.specs.declared.Refusal.the-variants.{Stale}
+use Rattle.planner.specs.Refusals.{numberOf, Verdict, verdict}
 use Rattle.planner.specs.Records.{recordOf, idsOf, noRecord}
 use Rattle.planner.specs.Answers.{freshPlan}
 use Rattle.planner.specs.Questions.{rowsWith, rowsShown, shownRows}
 use Rattle.planner.specs.History.{Call, planAfter}
+use Rattle.planner.proofs.Given.{taken}
 use Rattle.planner.proofs.Numbers.{rows-refused-9, rows-accepted-when}
 use Rattle.planner.proofs.Histories.{rows-demanded}
 use Rattle.command.specs.declared.Session.{Session}
@@ -133,17 +135,21 @@ module _ (calls : List Call) where
   unfolding tableText
   accepted taken = subst (ListsRows (shownRows shown)) (sym (ap (λ (a : Checked). tableBy a shown) taken)) (lists-rows (shownRows shown) _ (omega (arith, counts)))
 
-  refused : shown .answer ≡ Checked.Refused Stale → tableText shown ≡ 82 ∷ 32 ∷ 57 ∷ 10 ∷ []
+  refused : verdict (shown .answer) ≡ Verdict.refused 9 → tableText shown ≡ 82 ∷ 32 ∷ 57 ∷ 10 ∷ []
   unfolding tableText refusalText countText decimal digitsIn
-  refused e = ap (λ (a : Checked). tableBy a shown) e
+  refused = go (shown .answer)
+    where
+      go : (a : Checked) → verdict a ≡ Verdict.refused 9 → tableBy a shown ≡ 82 ∷ 32 ∷ 57 ∷ 10 ∷ []
+      go Checked.Accepted e = let clash : _≡_ {A = ℕ} 0 1 = cc in absurd (omega arith)
+      go (Checked.Refused why) e = let nine : numberOf why ≡ 9 = cc in ap (countText 82) nine
 
   calls-printed : PrintedByT calls (tableText shown)
   calls-printed = go (plan .live) refl
     where
       go : (live : Bool) → plan .live ≡ live → PrintedByT calls (tableText shown)
       go true live =
-          let taken = rows-accepted-when plan .1 live in
-          listed live (shownRows shown) (rows-demanded calls taken) (accepted taken)
+          let accepts = taken (shown .answer) (rows-accepted-when plan .1 live) in
+          listed live (shownRows shown) (rows-demanded calls accepts) (accepted accepts)
       go false stale = refused-9 stale (refused (rows-refused-9 plan .1 stale))
 
 -- the line `T` asks for the rows

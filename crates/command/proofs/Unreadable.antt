@@ -14,7 +14,8 @@ use Rattle.planner.specs.declared.FirstFit.{FirstFit}
 use Rattle.planner.specs.declared.Refusal.{Refusal}
 use Rattle.planner.specs.declared.RowRecord.{RowRecord}
 use Rattle.planner.specs.declared.Rows.{Rows}
-use Rattle.planner.specs.Refusals.{numberOf}
+use Rattle.planner.specs.Refusals.{numberOf, verdict}
+use Rattle.planner.specs.Refused.{judged, fitJudged}
 use Rattle.planner.specs.Questions.{rowsShown}
 use Rattle.planner.proofs.Numbers.{load-numbers, update-numbers, fit-numbers, rows-numbers}
 use Rattle.command.specs.declared.Session.{Session}
@@ -80,11 +81,11 @@ module _ (s : Session) where
   only-unreadable (Command.Keep job) e =
       absurd (either-other (ltb (s .jobs .count) 32) _ _ (first-other [] (λ h. omega arith)) (refusal-other Refusal.TooManyJobs (omega arith)) e)
   only-unreadable (Command.Load capacity) e =
-      absurd (answer-other _ _ (λ why h. omega (arith, load-numbers (s .plan) (s .jobs) capacity why h)) e)
+      absurd (answer-other _ _ (λ why h. omega (arith, load-numbers (s .plan) (s .jobs) capacity (ap judged h))) e)
   only-unreadable (Command.Update id earliest latest) e =
-      absurd (answer-other _ _ (λ why h. ⊎-elim (either-small (omega arith) (omega arith)) (either-small (omega arith) (omega arith)) (update-numbers (s .plan) id earliest latest why h)) e)
-  only-unreadable (Command.Fit id) e = absurd (fit-other _ (λ why h. either-small (omega arith) (omega arith) (fit-numbers (s .plan) id why h)) e)
-  only-unreadable Command.Rows e = absurd (table-other _ (rowsShown (s .plan)) (λ why h. omega (arith, rows-numbers (s .plan) why h)) e)
+      absurd (answer-other _ _ (λ why h. ⊎-elim (either-small (omega arith) (omega arith)) (either-small (omega arith) (omega arith)) (update-numbers (s .plan) id earliest latest (ap judged h))) e)
+  only-unreadable (Command.Fit id) e = absurd (fit-other _ (λ why h. either-small (omega arith) (omega arith) (fit-numbers (s .plan) id (ap fitJudged h))) e)
+  only-unreadable Command.Rows e = absurd (table-other (rowsShown (s .plan) .answer) (rowsShown (s .plan)) (λ why h. let nine = rows-numbers (s .plan) (ap verdict h) in omega arith) e)
   only-unreadable Command.Unreadable e = refl
 
   -- the line says nothing: no letter with its numbers is put together so

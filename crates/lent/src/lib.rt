@@ -7,6 +7,7 @@ pub mod rows;
 use planner::Answer;
 use planner::Checked;
 use planner::RowRecord;
+use sweep::Tasks;
 use sweep::util::Placed;
 
 // What a change of a lent plan answers: the answer, and the row that is too high, if one is.
@@ -19,7 +20,7 @@ pub struct Changed {
 pub struct Placing {
     pub answer: Answer,
     pub row: RowRecord,
-    pub placed: [Placed; 32],
+    pub placed: [Placed; Tasks::ROOM],
 }
 
 // What a copy of rows answers, and how many rows it copied.
