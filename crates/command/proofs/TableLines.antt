@@ -2,7 +2,8 @@
 -- are the only ones, and splitting there gives the numbers back.
 -- Assumes nothing.
 use mathlib.Core.Path.{_≡_, refl, sym, ap, _∙_, subst}
-use mathlib.Core.Bool.{Bool, true, false, cond}
+use mathlib.Core.Bool.{Bool, true, false, cond, true≢false}
+use mathlib.Core.Logic.{⊎-elim}
 use mathlib.Core.List.{List, [], _∷_, _++_, map, flatMap, append-nil, append-assoc}
 use Prim.Native.Nat.{ℕ, _+_, _<_}
 use native.Mathlib.Omega.{arith}
@@ -21,9 +22,12 @@ use Rattle.planner.specs.Records.{recordOf, idsOf, noRecord}
 use Rattle.planner.specs.Answers.{freshPlan}
 use Rattle.planner.specs.Questions.{rowsWith, rowsShown, shownRows}
 use Rattle.planner.specs.History.{Call, planAfter}
+use Rattle.planner.specs.Stale.{staleAfter}
+use Rattle.planner.proofs.Tests.{by-test}
 use Rattle.planner.proofs.Given.{taken}
 use Rattle.planner.proofs.Numbers.{rows-refused-9, rows-accepted-when}
 use Rattle.planner.proofs.Histories.{rows-demanded}
+use Rattle.planner.proofs.HeardStale.{heard-rows-9}
 use Rattle.command.specs.declared.Session.{Session}
 use Rattle.command.specs.Decimal.{digitsIn, decimal, signedText}
 use Rattle.command.specs.Grammar.{fieldsOf, valuesOf, numbersTaken, commandWith, byLetter, commandOf}
@@ -143,14 +147,20 @@ module _ (calls : List Call) where
       go Checked.Accepted e = let clash : _≡_ {A = ℕ} 0 1 = cc in absurd (omega arith)
       go (Checked.Refused why) e = let nine : numberOf why ≡ 9 = cc in ap (countText 82) nine
 
+  -- the rows are refused with 9 exactly if the answers say that the table is stale
+  not-stale : staleAfter freshPlan false calls ≡ false → shown .answer ≡ Checked.Accepted
+  not-stale fresh =
+      ⊎-elim
+      (λ live. taken (shown .answer) (rows-accepted-when plan .1 live))
+      (λ stale. absurd (true≢false (sym (heard-rows-9 calls .0 (rows-refused-9 plan .1 stale)) ∙ fresh)))
+      (by-test (plan .live))
+
   calls-printed : PrintedByT calls (tableText shown)
-  calls-printed = go (plan .live) refl
-    where
-      go : (live : Bool) → plan .live ≡ live → PrintedByT calls (tableText shown)
-      go true live =
-          let accepts = taken (shown .answer) (rows-accepted-when plan .1 live) in
-          listed live (shownRows shown) (rows-demanded calls accepts) (accepted accepts)
-      go false stale = refused-9 stale (refused (rows-refused-9 plan .1 stale))
+  calls-printed =
+      ⊎-elim
+      (λ stale. refused-9 stale (refused (heard-rows-9 calls .1 stale)))
+      (λ fresh. listed fresh (shownRows shown) (rows-demanded calls (not-stale fresh)) (accepted (not-stale fresh)))
+      (by-test (staleAfter freshPlan false calls))
 
 -- the line `T` asks for the rows
 asks : (s : Session) → answered s (84 ∷ []) .text ≡ tableText (rowsShown (s .plan))

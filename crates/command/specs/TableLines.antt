@@ -8,7 +8,8 @@ use lib.ListN.{length, getD}
 use Rattle.planner.specs.declared.RowRecord.{RowRecord}
 use Rattle.planner.specs.Records.{idsOf, noRecord}
 use Rattle.planner.specs.Answers.{freshPlan}
-use Rattle.planner.specs.History.{Call, planAfter}
+use Rattle.planner.specs.History.{Call}
+use Rattle.planner.specs.Stale.{staleAfter}
 use Rattle.planner.specs.Demand.{DemandedAfter}
 use Rattle.command.specs.Grammar.{fieldsOf}
 use Rattle.command.specs.Lines.{linesOf}
@@ -25,7 +26,7 @@ pub record ListsRows (rows : List RowRecord) (text : List ℕ) : Type 0 where
   pub last : LetterLine 69 (pos (length rows) ∷ []) (getD (linesOf text) (length rows) [])
   pub ended : Ended text
 
--- what `T` prints after some calls: `R 9` while the table is stale, and else the rows that demand 3 wants after them
+-- what `T` prints after some calls: `R 9` while the answers that were heard say that the table is stale, and else the rows that demand 3 wants
 pub data PrintedByT (calls : List Call) (text : List ℕ) : Type 0 where
-  refused-9 : planAfter freshPlan calls .live ≡ false → text ≡ 82 ∷ 32 ∷ 57 ∷ 10 ∷ [] → PrintedByT calls text
-  listed : planAfter freshPlan calls .live ≡ true → (rows : List RowRecord) → DemandedAfter calls rows → ListsRows rows text → PrintedByT calls text
+  refused-9 : staleAfter freshPlan false calls ≡ true → text ≡ 82 ∷ 32 ∷ 57 ∷ 10 ∷ [] → PrintedByT calls text
+  listed : staleAfter freshPlan false calls ≡ false → (rows : List RowRecord) → DemandedAfter calls rows → ListsRows rows text → PrintedByT calls text
