@@ -81,7 +81,7 @@ unfolding acceptedLoad
 load-taken jobs capacity = scanned (amount capacity) (sweep (created (map taskOf (jobsOf jobs))))
 
 module _ (plan : Plan) (jobs : Jobs) (capacity : ℤ) where
-  load-judged : judged (loaded plan jobs capacity .answer) ≡ verdict (loadChecked jobs capacity)
+  pub load-judged : judged (loaded plan jobs capacity .answer) ≡ verdict (loadChecked jobs capacity)
   unfolding loaded
   load-judged = go (loadChecked jobs capacity)
     where
