@@ -26,6 +26,7 @@ use Rattle.planner.specs.declared.Checked.{Checked}
 use Rattle.planner.specs.declared.Refusal.the-variants.{Stale}
 use Rattle.planner.specs.declared.Answer.the-variants.{Fits, Overloaded}
 use Rattle.planner.specs.declared.Updated.{Updated}
+use Rattle.planner.specs.Ranges.{maxCapacity}
 use Rattle.planner.specs.Instants.{amount}
 use Rattle.planner.specs.Loads.{taskOf}
 use Rattle.planner.specs.Records.{recordOf}
@@ -92,7 +93,7 @@ pub record Good (h : Heard) (o : Updated) : Type 0 where
 
 -- rows that are right for tasks that agree
 module _ (h : Heard) (jobs : List Job) (by-id : ById h jobs) (ts : List Task) (sound : SoundTasks (tasksWith ts)) (same : ts ≡ map taskOf jobs) (nums : AllNumbers jobs)
-    (capacity : ℕ) (small : capacity ≤ 1000000000) (cap : capacity ≡ amount (h .capacity)) where
+    (capacity : ℕ) (small : capacity ≤ maxCapacity) (cap : capacity ≡ amount (h .capacity)) where
   heard-tasks : tasksOf (tasksWith ts) ≡ map taskOf jobs
   heard-tasks = tasks-of ts ∙ same
 

@@ -10,7 +10,7 @@ use lib.IntN.{ℤ, pos, negsuc, _+ℤ_}
 use lib.Signed.{leZ, ltZ}
 use Rattle.time_table.specs.Meaning.{has}
 use Rattle.time_table.proofs.Sums.{lt-or-le}
-use Rattle.planner.specs.Ranges.{bounds}
+use Rattle.planner.specs.Ranges.{bounds, maxBound}
 use Rattle.planner.specs.Instants.{instant, tick, amount}
 use Rattle.planner.specs.Running.{between}
 use Rattle.planner.proofs.Tests.{by-test, ltZ-not}
@@ -27,9 +27,9 @@ below (pos n) s h = absurd (true≢false (sym h))
 below (negsuc n) s h =
     let far : 999999999 < n = ltb-true 999999999 n h in
     ⊎-elim
-    (λ lt. rw (instant-low s lt) (lt-leb n (1000000000 - suc s) (omega arith)))
+    (λ lt. rw (instant-low s lt) (lt-leb n (maxBound - suc s) (omega arith)))
     (λ ge. rw (instant-high s ge))
-    (lt-or-le s 1000000000)
+    (lt-or-le s maxBound)
 
 module _ {e l : ℤ} (b : Bounds e l) where
   pub run-at : {d : ℤ} {most : ℕ} → Amount most d → (s : ℕ) → between l (e +ℤ d) (instant s) ≡ has (tick l) (tick e + amount d) s
