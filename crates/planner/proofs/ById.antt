@@ -2,9 +2,9 @@
 -- ones; the others draw nothing. A load makes them so, and an update changes both alike.
 -- Assumes nothing.
 use mathlib.Core.Path.{_≡_, refl, sym, ap, _∙_}
-use mathlib.Core.Bool.{Bool, true, false, cond, _&&_, true≢false, false≢true}
+use mathlib.Core.Bool.{Bool, true, false, cond, _&&_}
 use mathlib.Core.List.{List, [], _∷_, map}
-use mathlib.Core.Logic.{inl, inr, ⊎-elim}
+use mathlib.Core.Logic.{⊎-elim}
 use Prim.Native.Nat.{ℕ, zero, suc, _+_, _≤_, _<_}
 use native.Mathlib.Nat.{not-suc-le-zero, le-of-suc-le-suc}
 use native.Mathlib.Decide.{ℕ-discrete}
@@ -15,7 +15,6 @@ use lib.IntN.{ℤ}
 use lib.ListN.{length, getD, set, length-map, length-set}
 use lib.Seq.{getD-set-same, getD-set-other}
 use Rattle.time_table.specs.Removal.{position}
-use Rattle.time_table.specs.Meaning.{total}
 use Rattle.time_table.proofs.Totals.{position-is}
 use Rattle.sweep.specs.declared.Task.{Task}
 use Rattle.sweep.specs.declared.util.Placed.{Placed}
@@ -26,14 +25,12 @@ use Rattle.sweep.proofs.JobOrder.{in-order-low}
 use Rattle.sweep.proofs.Placed.{position-at, get-map, kept-placed, placed-get, order-occur, order-once, created-length, created-at, created-kept, job-numbered, numbers-differ}
 use Rattle.planner.specs.declared.Job.{Job}
 use Rattle.planner.specs.declared.Checked.the-variants.{Accepted}
-use Rattle.planner.specs.Instants.{amount}
-use Rattle.planner.specs.Running.{mustRun}
 use Rattle.planner.specs.Checks.{boundsChecked, jobsChecked}
 use Rattle.planner.specs.Given.{noJob}
 use Rattle.planner.specs.Loads.{taskOf}
 use Rattle.planner.specs.Places.{Idle}
 use Rattle.planner.specs.History.{Heard, nothing, jobAt, Told, rebounded, rebounding}
-use Rattle.planner.specs.Demand.{drawnAt, Named, Identified, SomeJob}
+use Rattle.planner.specs.Demand.{drawnAt, Identified, SomeJob}
 use Rattle.planner.proofs.Tests.{by-test}
 use Rattle.planner.proofs.Accepted.{Numbers, bounds-accepted, job-accepted}
 use Rattle.planner.proofs.InputOrder.{jobs-accepted}
@@ -89,6 +86,15 @@ nothing-by-id =
       sums = λ f. refl;
     }
 
+-- a job is told that it is kept exactly if it is
+pub placed-kept : (ts : List Task) (p : ℕ) → placedAt ts p .kept ≡ keeps (taskAt ts p)
+unfolding placedAt
+placed-kept ts p = go (keeps (taskAt ts p))
+  where
+    go : (b : Bool) → cond b (record { kept = true; id = position p (inOrder ts) }) dropped .kept ≡ b
+    go true = refl
+    go false = refl
+
 -- a load: the jobs that were handed in, and the order of the kept ones
 abbrev pub keptJobs : List Job → List Job
 keptJobs js = map (λ (i : ℕ). getD js i noJob) (inOrder (map taskOf js))
@@ -115,17 +121,9 @@ module _ (capacity : ℤ) (js : List Job) (few : length js ≤ 32) (ok : jobsChe
   told-is : (p : ℕ) → p < length js → toldAt h p ≡ placedAt ts p
   told-is p lt = placed-get ts dropped 32 p (omega arith)
 
-  placed-kept : (p : ℕ) → placedAt ts p .kept ≡ keeps (taskAt ts p)
-  unfolding placedAt
-  placed-kept p = go (keeps (taskAt ts p))
-    where
-      go : (b : Bool) → cond b (record { kept = true; id = position p order }) dropped .kept ≡ b
-      go true = refl
-      go false = refl
-
   -- a job that was told an id is kept, and the id is its place in the order
   told-kept : (p i : ℕ) → Told h p i → keeps (taskAt ts p) ≡ true
-  told-kept p i told = sym (placed-kept p) ∙ ap (λ (x : Placed). x .kept) (sym (told-is p (told .inside)) ∙ told .id)
+  told-kept p i told = sym (placed-kept ts p) ∙ ap (λ (x : Placed). x .kept) (sym (told-is p (told .inside)) ∙ told .id)
 
   told-id : (p i : ℕ) → Told h p i → position p order ≡ i
   told-id p i told =
@@ -170,7 +168,7 @@ module _ (capacity : ℤ) (js : List Job) (few : length js ≤ 32) (ok : jobsChe
   dropped-draws : (p : ℕ) → p < length js → toldAt h p .kept ≡ false → (t : ℤ) → draw t (jobAt h p) ≡ 0
   dropped-draws p lt e t =
       idle-draws (getD js p noJob) (job-numbers p lt)
-      (drops-idle (getD js p noJob) (ap keeps (sym (task-is p lt)) ∙ sym (placed-kept p) ∙ sym (ap (λ (x : Placed). x .kept) (told-is p lt)) ∙ e)) t
+      (drops-idle (getD js p noJob) (ap keeps (sym (task-is p lt)) ∙ sym (placed-kept ts p) ∙ sym (ap (λ (x : Placed). x .kept) (told-is p lt)) ∙ e)) t
 
   module _ (f : ℕ → Job → ℕ) where
     -- a kept job's share, by its place in the input

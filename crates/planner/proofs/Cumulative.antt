@@ -24,10 +24,10 @@ use Rattle.planner.specs.History.{Call, Heard, accepted, outcome, planAf
 use Rattle.planner.specs.Demand.{drawnAt, Exceeds}
 use Rattle.planner.specs.Cumulative.{Starts, one, drawnFrom, Cumulative, AllFixed}
 use Rattle.planner.proofs.Ticks.{le-instant, instant-le}
-use Rattle.planner.proofs.Running.{AtTick, run-instant, run-at, at-tick}
+use Rattle.planner.proofs.RunInTicks.{AtTick, run-instant, run-at, at-tick}
 use Rattle.planner.proofs.Accepted.{Numbers, job-accepted}
 use Rattle.planner.proofs.SignedDraws.{AllNumbers}
-use Rattle.planner.proofs.Agreeing.{Good}
+use Rattle.planner.proofs.HeardPlan.{Good}
 use Rattle.planner.proofs.Histories.{accepted-good}
 
 module _ (j : Job) (n : Numbers j) where

@@ -22,7 +22,6 @@ use Rattle.planner.specs.declared.Plan.{Plan}
 use Rattle.planner.specs.declared.Refusal.{Refusal}
 use Rattle.planner.specs.declared.Checked.{Checked}
 use Rattle.planner.specs.declared.Answer.the-variants.{Fits, Overloaded}
-use Rattle.planner.specs.declared.Updated.{Updated}
 use Rattle.planner.specs.Instants.{tick, amount}
 use Rattle.planner.specs.Records.{recordOf, noRecord}
 use Rattle.planner.specs.Answers.{answerOf, shownRow, livePlan, sweptPlan, refusedUpdate}
@@ -32,9 +31,9 @@ use Rattle.planner.specs.History.{Call, load, update, withoutPlaces, out
 use Rattle.planner.specs.FirstRow.{FirstShown, ShowsFirst}
 use Rattle.planner.proofs.Tests.{by-test}
 use Rattle.planner.proofs.Known.{tasks-of}
-use Rattle.planner.proofs.Loading.{load-by}
-use Rattle.planner.proofs.Updating.{changed, accepted-by, live-over-full, live-with-room}
-use Rattle.planner.proofs.Agreeing.{answer-over}
+use Rattle.planner.proofs.LoadedTasks.{load-by}
+use Rattle.planner.proofs.UpdatedPlan.{changed, accepted-by, live-over-full, live-with-room}
+use Rattle.planner.proofs.HeardPlan.{answer-over}
 use Rattle.planner.proofs.Liveness.{by-update, live-stays}
 
 -- "fits" is answered only if no row was found

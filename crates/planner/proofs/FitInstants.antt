@@ -17,7 +17,7 @@ use Rattle.time_table.specs.Order.{ticks}
 use Rattle.time_table.specs.Meaning.{has, summed, heightAt}
 use Rattle.time_table.proofs.Bits.{same-test}
 use Rattle.sweep.specs.declared.Task.{Task}
-use Rattle.sweep.specs.Tasks.{tasksOf, taskAt, lasts}
+use Rattle.sweep.specs.Tasks.{lasts}
 use Rattle.fit.specs.declared.Fit.{Fit}
 use Rattle.fit.specs.Fits.{IsFit, IsFirst, IsFirstFit}
 use Rattle.fit.specs.FirstFit.{firstFit, noneFound}
@@ -31,9 +31,9 @@ use Rattle.planner.specs.Questions.{askedBy, startOf, fitOf}
 use Rattle.planner.specs.Refused.{HasTask}
 use Rattle.planner.specs.SignedFit.{taskWith, heightThen, FitsAt, FirstAt}
 use Rattle.planner.proofs.Ticks.{instant-sum, instant-order, instant-strict, le-instant, instant-le}
-use Rattle.planner.proofs.Running.{AtTick, at-tick}
+use Rattle.planner.proofs.RunInTicks.{AtTick, at-tick}
 use Rattle.planner.proofs.Known.{known-true}
-use Rattle.planner.proofs.Asking.{fit-asked}
+use Rattle.planner.proofs.FitQuestions.{fit-asked}
 use Rattle.planner.proofs.Ids.{has-task}
 
 -- the height at the instant of a tick

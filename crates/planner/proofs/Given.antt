@@ -16,7 +16,7 @@ use Rattle.planner.specs.Ranges.{inRange, bounds, durations, usages, cap
 use Rattle.planner.specs.Checks.{_then_, capacityChecked, boundsChecked, jobChecked}
 use Rattle.planner.specs.Given.{CapacityGiven, capacity-out, capacity-in, BoundsGiven, bound-out, crossed, ordered, JobGiven, bounds-refused, duration-out, usage-out, job-in}
 use Rattle.planner.proofs.Tests.{by-test, ltZ-not}
-use Rattle.planner.proofs.Ranged.{range-test, range-fact, range-none, range-fails}
+use Rattle.planner.proofs.RangeTest.{range-test, range-fact, range-none, range-fails}
 
 -- what a verdict says of a check, and of a check and then another
 pub taken : (c : Checked) → verdict c ≡ admitted → c ≡ Accepted

@@ -32,12 +32,12 @@ use Rattle.planner.specs.History.{Call, Heard, nothing, jobAt, Told, pla
 use Rattle.planner.specs.Demand.{drawnAt}
 use Rattle.planner.specs.SignedFit.{heightThen, FitsAt, FirstAt}
 use Rattle.planner.specs.HeardFit.{HeardFits, HeardFirst}
-use Rattle.planner.proofs.Running.{below, placed}
+use Rattle.planner.proofs.RunInTicks.{below, placed}
 use Rattle.planner.proofs.Accepted.{Numbers}
 use Rattle.planner.proofs.SignedDraws.{numbers-at, draw-below}
 use Rattle.planner.proofs.ById.{drawn-kept}
 use Rattle.planner.proofs.SignedRows.{counts, height-signed}
-use Rattle.planner.proofs.Agreeing.{Agrees, rows-live}
+use Rattle.planner.proofs.HeardPlan.{Agrees, rows-live}
 use Rattle.planner.proofs.Histories.{history-agrees}
 use Rattle.planner.proofs.FitInstants.{height-then, start-exactly, nowhere-exactly}
 

@@ -1,10 +1,10 @@
 -- Over every history an id is unknown exactly if no job was told it: the ids that were told are the numbers of the plan's tasks.
 -- Assumes nothing.
-use mathlib.Core.Path.{_≡_, refl, sym, ap, _∙_, subst}
+use mathlib.Core.Path.{_≡_, refl, ap, _∙_, subst}
 use mathlib.Core.Bool.{true}
 use mathlib.Core.List.{List}
 use mathlib.Core.Logic.{_↔_, inl, inr, ⊎-elim, Iff·trans}
-use Prim.Native.Nat.{ℕ, _≤_, _<_}
+use Prim.Native.Nat.{ℕ, _<_}
 use native.Mathlib.Omega.{arith}
 use borrow.Author.Tests.{ltb-true, leb-true, le-leb}
 use lib.IntN.{ℤ, pos, negsuc}
@@ -20,7 +20,7 @@ use Rattle.planner.specs.Refused.{judged, fitJudged, NoTask}
 use Rattle.planner.specs.Answers.{freshPlan}
 use Rattle.planner.specs.History.{Call, Heard, nothing, planAfter, heardAfter}
 use Rattle.planner.specs.Demand.{SomeJob, NoJob}
-use Rattle.planner.proofs.Agreeing.{Agrees}
+use Rattle.planner.proofs.HeardPlan.{Agrees}
 use Rattle.planner.proofs.Histories.{history-agrees}
 use Rattle.planner.proofs.Numbers.{update-refused-7, fit-refused-7}
 

@@ -38,16 +38,16 @@ use Rattle.planner.specs.History.{Call, load, update, withoutPlaces, out
 use Rattle.planner.specs.Questions.{rowsShown, shownRows}
 use Rattle.planner.specs.Demand.{Identified, Answered, DemandedAfter}
 use Rattle.planner.proofs.Tests.{by-test}
-use Rattle.planner.proofs.Loading.{jobs-few, load-by, load-accepted, loaded-sound}
+use Rattle.planner.proofs.LoadedTasks.{jobs-few, load-by, load-accepted, loaded-sound}
 use Rattle.planner.proofs.Known.{tasks-of}
 use Rattle.planner.proofs.Known.{known-true}
-use Rattle.planner.proofs.Updating.{new-sound, new-live, accepted-by, live-over-full, live-with-room, update-unknown, update-known}
+use Rattle.planner.proofs.UpdatedPlan.{new-sound, new-live, accepted-by, live-over-full, live-with-room, update-unknown, update-known}
 use Rattle.planner.proofs.Accepted.{capacity-accepted, bounds-accepted}
 use Rattle.planner.proofs.HeardJobs.{kept-tasks, kept-numbers, moved-tasks, moved-numbers}
 use Rattle.planner.proofs.SignedDraws.{AllNumbers}
 use Rattle.planner.proofs.ById.{ById, keptJobs, loaded-by-id, updated-by-id}
 use Rattle.planner.proofs.SignedRows.{demanded-signed}
-use Rattle.planner.proofs.Agreeing.{Agrees, fresh-agrees, shown-demanded, Good, live-good, swept-good}
+use Rattle.planner.proofs.HeardPlan.{Agrees, fresh-agrees, shown-demanded, Good, live-good, swept-good}
 
 -- a call is refused and leaves the plan as it was, or is accepted and good
 abbrev Led : Heard → Plan → Call → Type 0

@@ -1,6 +1,6 @@
 -- The jobs that are not kept are those with usage 0 or duration 0, and such a job draws nothing at any instant.
 -- Assumes nothing.
-use mathlib.Core.Path.{_≡_, refl, sym, ap, _∙_}
+use mathlib.Core.Path.{_≡_, refl, ap, _∙_}
 use mathlib.Core.Bool.{Bool, true, false, cond, _&&_, and-false}
 use mathlib.Core.Logic.{inl, inr, ⊎-elim}
 use Prim.Native.Nat.{ℕ, _+_, _≤_}
@@ -16,7 +16,7 @@ use Rattle.planner.specs.Instants.{instant, tick, amount}
 use Rattle.planner.specs.Running.{mustRun}
 use Rattle.planner.specs.Loads.{taskOf}
 use Rattle.planner.specs.Places.{Idle}
-use Rattle.planner.proofs.Running.{AtTick, run-at, run-low, placed}
+use Rattle.planner.proofs.RunInTicks.{run-at, run-low, placed}
 use Rattle.planner.proofs.Accepted.{Numbers}
 
 amount-none : (z : ℤ) → amount z ≤ 0 → z ≡ pos 0

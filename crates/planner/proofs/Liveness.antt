@@ -27,8 +27,8 @@ use Rattle.planner.specs.Loads.{loadChecked, acceptedLoad}
 use Rattle.planner.specs.Updates.{known, bounded, acceptedUpdate}
 use Rattle.planner.specs.History.{load, update, withoutPlaces, outcome, accepted}
 use Rattle.planner.proofs.Tests.{by-test}
-use Rattle.planner.proofs.Loading.{load-by}
-use Rattle.planner.proofs.Updating.{accepted-by, live-over-full, live-with-room, update-unknown, update-known}
+use Rattle.planner.proofs.LoadedTasks.{load-by}
+use Rattle.planner.proofs.UpdatedPlan.{accepted-by, live-over-full, live-with-room, update-unknown, update-known}
 
 -- live afterwards exactly if the answer is "fits"
 abbrev LiveIfFits : Updated → Type 0

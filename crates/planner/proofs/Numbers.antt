@@ -26,7 +26,7 @@ use Rattle.planner.specs.Loads.{jobsOf, loaded}
 use Rattle.planner.specs.Updates.{updated}
 use Rattle.planner.specs.Questions.{fitOf, rowsShown}
 use Rattle.planner.specs.Refused.{judged, fitJudged, JobTaken, FirstJob, FirstOut, LoadGiven, too-many, bad-capacity, bad-job, load-in, HasTask, NoTask, editsBy, OverAfter, UpdateGiven, not-there, bad-bounds, too-long, update-in, FitGiven, nobody, fit-stale, RowsGiven, rows-stale, rows-in}
-use Rattle.planner.proofs.Exactly.{bounds-number, job-number, bounds-3, bounds-4, job-3, job-4, job-5, job-6}
+use Rattle.planner.proofs.JobRefusals.{bounds-number, job-number, bounds-3, bounds-4, job-3, job-4, job-5, job-6}
 use Rattle.planner.proofs.Refused.{load-exactly, update-exactly, fit-exactly, rows-exactly}
 
 -- an accepted call answers "fits" or "overloaded"

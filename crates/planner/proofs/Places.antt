@@ -1,7 +1,7 @@
 -- The answer for each job of an accepted load: a job that is not dropped stands once in the order of the kept ones, and its place there is its id.
 -- Assumes nothing.
 use mathlib.Core.Path.{_≡_, refl, sym, ap, _∙_}
-use mathlib.Core.Bool.{Bool, true, false, cond, false≢true}
+use mathlib.Core.Bool.{true, false, false≢true}
 use mathlib.Core.List.{List, map}
 use mathlib.Core.Logic.{_↔_, ⊎-elim}
 use Prim.Native.Nat.{ℕ, _<_}
@@ -16,7 +16,6 @@ use Rattle.sweep.specs.declared.util.Placed.{Placed}
 use Rattle.sweep.specs.Tasks.{noTask, tasksOf, tasksWith, taskAt}
 use Rattle.sweep.specs.Created.{keeps, inOrder, created, dropped, placedAt}
 use Rattle.sweep.proofs.Placed.{get-map, placed-get, job-numbered, numbers-differ, job-dropped}
-use Rattle.planner.specs.declared.Job.{Job}
 use Rattle.planner.specs.declared.Jobs.{Jobs}
 use Rattle.planner.specs.declared.Plan.{Plan}
 use Rattle.planner.specs.declared.Checked.{Checked}
@@ -29,7 +28,8 @@ use Rattle.planner.specs.Places.{inputAt, placeOf, Idle, KnownAs}
 use Rattle.planner.proofs.Tests.{by-test}
 use Rattle.planner.proofs.Known.{tasks-of}
 use Rattle.planner.proofs.IdleJobs.{drops-idle, idle-drops}
-use Rattle.planner.proofs.Loading.{jobs-few, load-by, load-accepted}
+use Rattle.planner.proofs.ById.{placed-kept}
+use Rattle.planner.proofs.LoadedTasks.{jobs-few, load-by, load-accepted}
 
 -- an accepted load
 module _ (plan : Plan) (jobs : Jobs) (capacity : ℤ) (taken : accepted (loaded plan jobs capacity .answer) ≡ true) where
@@ -65,12 +65,7 @@ module _ (plan : Plan) (jobs : Jobs) (capacity : ℤ) (taken : accepted (loaded 
     task-is = get-map taskOf noJob noTask (jobsOf jobs) i lt
 
     kept-is : place .kept ≡ keeps (taskAt ts i)
-    unfolding placedAt
-    kept-is = ap (λ (p : Placed). p .kept) place-is ∙ go (keeps (taskAt ts i))
-      where
-        go : (b : Bool) → cond b (record { kept = true; id = position i (inOrder ts) }) dropped .kept ≡ b
-        go true = refl
-        go false = refl
+    kept-is = ap (λ (p : Placed). p .kept) place-is ∙ placed-kept ts i
 
     -- the answer is "dropped" exactly if the job's usage or duration is 0
     pub place-dropped : (placeOf (loaded plan jobs capacity) i ≡ dropped) ↔ Idle (inputAt jobs i)

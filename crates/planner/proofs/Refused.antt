@@ -41,8 +41,8 @@ use Rattle.planner.specs.Refused.{judged, fitJudged, LoadGiven, too-many
 use Rattle.planner.proofs.Tests.{by-test}
 use Rattle.planner.proofs.Given.{refused-first, by-table, some-capacity, capacity-exactly, capacity-taken, some-bounds, bounds-exactly, bounds-taken}
 use Rattle.planner.proofs.InputOrder.{jobs-taken, jobs-refused}
-use Rattle.planner.proofs.Updating.{accepted-by, live-over-full, live-with-room, update-unknown, update-known}
-use Rattle.planner.proofs.Asking as asking
+use Rattle.planner.proofs.UpdatedPlan.{accepted-by, live-over-full, live-with-room, update-unknown, update-known}
+use Rattle.planner.proofs.FitQuestions as asking
 use Rattle.planner.proofs.Ids.{has-task, no-task}
 use Rattle.planner.proofs.OverLimit.{over-exactly}
 

@@ -23,7 +23,7 @@ use Rattle.planner.specs.Running.{mustRun}
 use Rattle.planner.specs.Given.{noJob}
 use Rattle.planner.specs.Demand.{drawnAt}
 use Rattle.planner.proofs.Accepted.{Numbers, job-accepted}
-use Rattle.planner.proofs.Running.{run-at, run-low}
+use Rattle.planner.proofs.RunInTicks.{run-at, run-low}
 
 -- every job's numbers are in range
 unfoldable pub AllNumbers : List Job → Type 0

@@ -35,7 +35,7 @@ use Rattle.planner.specs.History.{Heard, jobAt, Told}
 use Rattle.planner.specs.Demand.{drawnAt, ExceedsAt, Exceeds, FirstExceeds, recordAt, In, RowOf, Demanded}
 use Rattle.planner.proofs.Tests.{by-test}
 use Rattle.planner.proofs.Ticks.{instant-order, instant-strict}
-use Rattle.planner.proofs.Running.{AtTick, below, placed}
+use Rattle.planner.proofs.RunInTicks.{AtTick, below, placed}
 use Rattle.planner.proofs.Limits.{sound-few}
 use Rattle.planner.proofs.SignedDraws.{AllNumbers, runningAt, running-get, running-past, runs-signed, draw-signed, runs-below, draw-below}
 use Rattle.planner.proofs.ById.{ById, drawn-kept}

@@ -9,7 +9,7 @@ use Rattle.planner.specs.Instants.{amount}
 use Rattle.planner.specs.Updates.{known}
 use Rattle.planner.specs.Questions.{startOf}
 use Rattle.planner.proofs.Known.{known-true}
-use Rattle.planner.proofs.Asking.{fit-unknown, fit-stale, fit-asked, asked-read, askable, start-low}
+use Rattle.planner.proofs.FitQuestions.{fit-unknown, fit-stale, fit-asked, asked-read, askable, start-low}
 use borrow.Author.Needs.{needs}
 use native.Mathlib.Omega.{arith}
 use Rattle.planner.proofs.Plan.first_fit.Statement.{statement}

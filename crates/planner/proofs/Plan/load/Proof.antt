@@ -4,7 +4,7 @@ use mathlib.Core.Path.{_≡_, sym, ap, _∙_}
 use mir.Facts.{toZ-ofZ}
 use Rattle.planner.specs.declared.Checked.the-variants.{Accepted}
 use Rattle.planner.specs.Loads.{loadChecked, acceptedLoad}
-use Rattle.planner.proofs.Loading.{load-by, load-accepted}
+use Rattle.planner.proofs.LoadedTasks.{load-by, load-accepted}
 use borrow.Author.Needs.{needs}
 use Rattle.planner.proofs.Plan.load.Statement.{statement}
 use Rattle.planner.proofs.Plan.load.Tie as tie

@@ -14,7 +14,7 @@ use Rattle.planner.specs.Updates.{known, acceptedUpdate, updated}
 use Rattle.planner.proofs.Signed.{bounds-read}
 use Rattle.planner.proofs.Accepted.{Bounds, bounds-accepted}
 use Rattle.planner.proofs.Known.{known-true}
-use Rattle.planner.proofs.Updating.{update-unknown, update-known}
+use Rattle.planner.proofs.UpdatedPlan.{update-unknown, update-known}
 use native.Mathlib.Omega.{arith}
 use borrow.Author.Needs.{needs}
 use Rattle.planner.proofs.Plan.update.Statement.{statement}

@@ -10,7 +10,7 @@ use Rattle.planner.specs.Instants.{amount}
 use Rattle.planner.specs.Answers.{sweptPlan}
 use Rattle.planner.specs.Loads.{jobsOf, taskOf, acceptedLoad}
 use Rattle.planner.proofs.Accepted.{capacity-accepted}
-use Rattle.planner.proofs.Loading.{tasks-held, jobs-few, loaded-sound}
+use Rattle.planner.proofs.LoadedTasks.{tasks-held, jobs-few, loaded-sound}
 use Rattle.planner.proofs.Known.{tasks-of}
 use Rattle.planner.proofs.load.accepted_load.Statement.{statement}
 use Rattle.planner.proofs.load.accepted_load.Tie as tie

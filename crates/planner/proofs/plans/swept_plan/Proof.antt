@@ -1,7 +1,7 @@
 -- `swept_plan` meets its contract: tasks within the limits can be swept, and what the sweep gives is the definition's and sound.
 -- Assumes nothing.
 use Rattle.planner.proofs.Limits.{sound-sweepable}
-use Rattle.planner.proofs.Answering.{swept-low, swept-over-is, swept-fits-is, swept-stale-sound, swept-live-sound}
+use Rattle.planner.proofs.AnswerAndPlan.{swept-low, swept-over-is, swept-fits-is, swept-stale-sound, swept-live-sound}
 use borrow.Author.Needs.{needs}
 use Rattle.planner.proofs.plans.swept_plan.Statement.{statement}
 use Rattle.planner.proofs.plans.swept_plan.Tie as tie

@@ -14,8 +14,8 @@ use Rattle.planner.specs.Sound.{SoundTasks, Live, Sound}
 use Rattle.planner.specs.Answers.{livePlan}
 use Rattle.planner.specs.Updates.{bounded, acceptedUpdate}
 use Rattle.planner.proofs.Limits.{ends}
-use Rattle.planner.proofs.Answering.{live-sound, shown-low, live-over, live-fits}
-use Rattle.planner.proofs.Updating.{read-is, updatable, stored, stored-sound, edit-over, edit-live, edit-clean, edit-whole}
+use Rattle.planner.proofs.AnswerAndPlan.{live-sound, shown-low, live-over, live-fits}
+use Rattle.planner.proofs.UpdatedPlan.{read-is, updatable, stored, stored-sound, edit-over, edit-live, edit-clean, edit-whole}
 use borrow.Author.Needs.{needs}
 use native.Mathlib.Omega.{arith}
 use Rattle.planner.proofs.update.live_update.Statement.{statement}

@@ -4,7 +4,7 @@ use mathlib.Core.Path.{_≡_, sym, ap, _∙_}
 use Rattle.sweep.specs.Tasks.{tasksOf, taskAt}
 use Rattle.planner.specs.Answers.{sweptPlan}
 use Rattle.planner.specs.Updates.{bounded}
-use Rattle.planner.proofs.Updating.{read-is, stored-sound, stored-tasks, accepted-by}
+use Rattle.planner.proofs.UpdatedPlan.{read-is, stored-sound, stored-tasks, accepted-by}
 use borrow.Author.Needs.{needs}
 use native.Mathlib.Omega.{arith}
 use Rattle.planner.proofs.update.stale_update.Statement.{statement}

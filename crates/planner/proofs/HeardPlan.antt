@@ -20,8 +20,6 @@ use Rattle.sweep.specs.Sweep.{sweep, swept}
 use Rattle.sweep.proofs.Right.{sweep-right}
 use Rattle.planner.specs.declared.Job.{Job}
 use Rattle.planner.specs.declared.Plan.{Plan}
-use Rattle.planner.specs.declared.RowRecord.{RowRecord}
-use Rattle.planner.specs.declared.Rows.{Rows}
 use Rattle.planner.specs.declared.Checked.{Checked}
 use Rattle.planner.specs.declared.Refusal.the-variants.{Stale}
 use Rattle.planner.specs.declared.Answer.the-variants.{Fits, Overloaded}
@@ -38,7 +36,7 @@ use Rattle.planner.specs.Demand.{Exceeds, FirstExceeds, Demanded, Answer
 use Rattle.planner.proofs.Tests.{by-test}
 use Rattle.planner.proofs.Known.{tasks-of}
 use Rattle.planner.proofs.Limits.{sound-sweepable}
-use Rattle.planner.proofs.Answering.{swept-stale-sound, swept-live-sound, live-sound}
+use Rattle.planner.proofs.AnswerAndPlan.{swept-stale-sound, swept-live-sound, live-sound}
 use Rattle.planner.proofs.Fresh.{fresh-sound}
 use Rattle.planner.proofs.SignedDraws.{AllNumbers}
 use Rattle.planner.proofs.ById.{ById, nothing-by-id}
