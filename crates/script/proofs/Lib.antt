@@ -3,3 +3,4 @@ pub mod Reading
 pub mod Keeping
 pub mod Running
 pub mod Unique
+pub mod Example

@@ -4,3 +4,4 @@ pub mod AnswerNumbers
 pub mod Outcomes
 pub mod Runs
 pub mod Unique
+pub mod Example
