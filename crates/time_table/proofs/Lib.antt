@@ -21,6 +21,7 @@ pub mod Draws
 pub mod RowSound
 pub mod EditRight
 pub mod PartDifference
+pub mod AdjustmentTable
 pub mod Editable
 pub mod TableOfRows
 pub mod PartsInTurn

@@ -4,6 +4,7 @@ pub mod Order
 pub mod Table
 pub mod Pieces
 pub mod Adjustments
+pub mod AdjustmentTable
 pub mod Insertion
 pub mod Removal
 pub mod Overlap
