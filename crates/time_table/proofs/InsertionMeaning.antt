@@ -1,7 +1,7 @@
 -- An insertion lists the task once more, and adds its usage, where the part is, and nothing elsewhere: a covered piece has the task joined, an
 -- uncovered one has it alone, and a piece that is only cut off keeps what it had.
 -- Assumes nothing.
-use mathlib.Core.Path.{_≡_, sym, refl}
+use mathlib.Core.Path.{_≡_, sym, refl, ap}
 use mathlib.Core.Bool.{cond}
 use mathlib.Core.List.{List, [], _∷_}
 use Prim.Native.Nat.{ℕ, _+_, _≤_, min, max}
@@ -34,8 +34,15 @@ module _ (f : Row → ℕ) (t v : ℕ) (p : Part)
         ≡ cond (has x (min (p .until) s) t) v 0 + cond (has s (min x e) t) (f r) 0
         + cond (has (max x s) (min (p .until) e) t) (f r + v) 0 + cond (has (max (p .until) s) e t) (f r) 0 =
         simp (summed-append, summed-cut f t kept, new, join) in
+        let past : pastRow q r ≡ max x (min (p .until) e) = omega arith in
         rw (summed-append, insertion-sum hi (r .end + 1) (pastRow q r) rs (o .3) (omega arith))
-        (omega (arith, g, three s x (p .until) e t (f r) (f r + v) le, around s x (p .until) e t v (f r) le (omega arith)))
+        (omega (
+          arith,
+          g,
+          three s x (p .until) e t (f r) (f r + v) le,
+          around s x (p .until) e t v (f r) le (omega arith),
+          ap (λ (n : ℕ). cond (has n (p .until) t) v 0) past,
+        ))
 
 module _ (p : Part) (hi lo t : ℕ) (rows : List Row) (sorted : Ordered hi lo rows) (some : p .from ≤ p .until) where
   -- of any share u of the tasks, as `one i` or the tasks' usages

@@ -75,7 +75,7 @@ module _ (f : Row → ℕ) (t : ℕ) where
   summed-cut kept r x y =
       ⊎-elim
       (λ lt.
-      let last : y - 1 + 1 ≡ y = omega arith in
+      let last : spanned r x y .end + 1 ≡ y = omega arith in
       rw (cut-some r x y lt, kept r x y, last, add-zero))
       (λ le. rw (cut-none r x y le)
       (rw (has-none x y t le)))
