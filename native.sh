@@ -1,6 +1,6 @@
 #!/bin/sh
 # native.sh CRATE OUT: what `rt` compiles for x86-64, compiled for this processor: of the library `script`
-# an object, of a program the program. A relative OUT is below the repository's root.
+# an object, of `pass_planner` the program. A relative OUT is below the repository's root.
 # This runs `rt` with a folder of links to the kit, in which clang is a script that keeps the LLVM module
 # that it is handed. Then the kit's own clang compiles that module at -O3, as it did for x86-64. On
 # another processor it says that it ignores the processor x86-64, which the module names.
@@ -14,7 +14,7 @@ cd "$(dirname "$0")"
 need rt
 crate=$1
 out=$2
-[ ! -f "crates/$crate/src/main.rt" ] || need "${CC:-cc}"
+[ "$crate" != pass_planner ] || need "${CC:-cc}"
 machine=$(uname -m)
 kit=$(dirname "$(dirname "$(rt doc)")")
 clang=$kit/on/$machine/toolchain/bin/clang
@@ -37,15 +37,8 @@ cp module.bc "$links/kept.bc"
 exec "$clang" "\$@"
 END
 chmod +x "$links/on/$machine/toolchain/bin/clang"
-compile() { # to an object
-    "$clang" --target="$machine-unknown-linux-gnu" -O3 -fPIC -ffunction-sections -w -c -x ir "$links/kept.bc" -o "$1"
-}
-if [ -f "crates/$crate/src/main.rt" ]; then
-    rm -f "target/stamp/$crate" # so that it is compiled again
-    RATTLE_HOME=$links rt check "$crate"
-    compile "$links/program.o"
-    ${CC:-cc} -o "$out" "$links/program.o"
-else
-    RATTLE_HOME=$links rt staticlib "$crate"
-    compile "$out"
-fi
+RATTLE_HOME=$links rt staticlib "$crate"
+object=$out
+[ "$crate" != pass_planner ] || object=$links/program.o
+"$clang" --target="$machine-unknown-linux-gnu" -O3 -fPIC -ffunction-sections -w -c -x ir "$links/kept.bc" -o "$object"
+[ "$crate" != pass_planner ] || ${CC:-cc} -Wl,--defsym=main=pass_planner -o "$out" "$object"

@@ -21,10 +21,10 @@ need rt
 program=target/bin/pass_planner
 if ! [ -x "$program" ] || [ -n "$(find crates crates.txt -newer "$program")" ]; then
     echo 'run.sh: proving and building the program, which can take some minutes' >&2
-fi
-if ! said=$(rt check pass_planner </dev/null 2>&1); then
-    printf '%s\n' "$said" >&2
-    exit 1
+    if ! said=$(./build.sh </dev/null 2>&1); then
+        printf '%s\n' "$said" >&2
+        exit 1
+    fi
 fi
 set --
 if [ "$(uname -m)" != x86_64 ]; then

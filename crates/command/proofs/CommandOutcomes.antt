@@ -1,73 +1,94 @@
--- A command gives its outcome, since the planner's answer is the definition's and what was written is the text of that answer; a job is kept or refused
--- by the definition's own test.
+-- A line's outcome, step by step: what the planner's load or update leads to, or what is told and the jobs that are kept; each is the definition's own
+-- case.
 -- Assumes nothing.
-use mathlib.Core.Path.{_≡_, refl, subst}
-use mathlib.Core.List.{List, []}
-use Prim.Native.Nat.{ℕ, _≤_, _<_}
+use mathlib.Core.Path.{_≡_, refl, sym, ap, _∙_, subst}
+use mathlib.Core.Bool.{Bool, true, false, cond}
+use mathlib.Core.List.{List, [], _∷_}
+use Prim.Native.Nat.{ℕ}
 use native.Mathlib.Omega.{arith}
-use borrow.Author.Tests.{lt-ltb, le-ltb}
+use borrow.Author.Tests.{ltb-true}
+use denote.Enum.Declared.{tagOf}
+use lib.Dec.{ltb}
 use lib.IntN.{ℤ}
+use types.Run.{OneOf, miss}
 use Rattle.time_table.specs.Held.{Held}
+use Rattle.time_table.proofs.Held.{held-push, held-self}
 use Rattle.planner.specs.declared.Job.{Job}
 use Rattle.planner.specs.declared.Jobs.{Jobs}
-use Rattle.planner.specs.declared.Loaded.{Loaded}
 use Rattle.planner.specs.declared.Updated.{Updated}
-use Rattle.planner.specs.declared.FirstFit.{FirstFit}
-use Rattle.planner.specs.declared.Rows.{Rows}
 use Rattle.planner.specs.declared.Refusal.the-variants.{TooManyJobs}
 use Rattle.planner.specs.Given.{noJob}
 use Rattle.planner.specs.Kept.{jobsWith, keeping}
-use Rattle.planner.specs.Loads.{loaded}
+use Rattle.planner.specs.Loads.{jobsOf, loaded}
 use Rattle.planner.specs.Updates.{updated}
-use Rattle.planner.specs.Questions.{fitOf, rowsShown}
+use Rattle.planner.specs.History.{withoutPlaces}
+use Rattle.planner.proofs.Kept.{keeping-more}
 use Rattle.command.specs.declared.Session.{Session}
-use Rattle.command.specs.declared.Answered.{Answered}
-use Rattle.command.specs.Text.{refusalText, answerText, fitText, tableText}
-use Rattle.command.specs.Written.{Written}
-use Rattle.command.specs.Sessions.{Outcome, Gives, Answers, kept, loads, updates, asksFit, asksRows}
-use Rattle.command.proofs.WrittenText.{written-none, written-front}
+use Rattle.command.specs.declared.Command.{Command}
+use Rattle.command.specs.declared.Command.the-variants.{Keep, Load, Update, Fit, Rows, Unreadable}
+use Rattle.command.specs.Grammar.{commandOf}
+use Rattle.command.specs.Text.{refusalText, answerText}
+use Rattle.command.specs.Sessions.{Outcome, Ready, refused, outcome, answered, moreKept, told}
+use Rattle.command.proofs.Command.{the-type}
 
-module _ {out after : List ℕ} {n : ℕ} (s : Session) where
-  pub loads-given : (capacity : ℤ) (l : Loaded) (jobs : Jobs) → l ≡ loaded (s .plan) (s .jobs) capacity → jobs ≡ jobsWith []
-      → Written out 0 (answerText (l .answer) (l .row)) after n
-      → Gives (loads s capacity) out after (record { session = record { plan = l .plan; jobs = jobs }; len = n })
-  loads-given capacity l jobs e f w =
-      record {
-        session = λ i. record { plan = e i .plan; jobs = f i };
-        text = subst (λ (x : Loaded). Written out 0 (answerText (x .answer) (x .row)) after n) e w;
-      }
+-- the outcome of a command whose plan goes with the planner's answer
+abbrev pub by-answer : Updated → Jobs → Outcome
+by-answer u jobs = record { session = record { plan = u .plan; jobs = jobs }; text = answerText (u .answer) (u .row) }
 
-  pub updates-given : (id earliest latest : ℤ) (u : Updated) → u ≡ updated (s .plan) id earliest latest
-      → Written out 0 (answerText (u .answer) (u .row)) after n
-      → Gives (updates s id earliest latest) out after (record { session = record { plan = u .plan; jobs = s .jobs }; len = n })
-  updates-given id earliest latest u e w =
-      record {
-        session = λ i. record { plan = e i .plan; jobs = s .jobs };
-        text = subst (λ (x : Updated). Written out 0 (answerText (x .answer) (x .row)) after n) e w;
-      }
+-- and of one that is told
+abbrev pub by-telling : Session → Command → Jobs → Outcome
+by-telling s c jobs = record { session = record { plan = s .plan; jobs = jobs }; text = told (s .plan) (s .jobs .count) c }
 
-  pub fit-given : (id : ℤ) (found : FirstFit) → found ≡ fitOf (s .plan) id → Written out 0 (fitText found) after n → Gives (asksFit s id) out after (record { session = s; len = n })
-  fit-given id found e w = record { session = refl; text = subst (λ (x : FirstFit). Written out 0 (fitText x) after n) e w }
+module _ (s : Session) (l : List ℕ) {c : Command} (read : c ≡ commandOf l) where
+  as-read : {d : Command} → c ≡ d → answered s l ≡ outcome s d
+  as-read e = ap (outcome s) (sym read ∙ e)
 
-  pub rows-given : (shown : Rows) → shown ≡ rowsShown (s .plan) → Written out 0 (tableText shown) after n → Gives (asksRows s) out after (record { session = s; len = n })
-  rows-given shown e w = record { session = refl; text = subst (λ (x : Rows). Written out 0 (tableText x) after n) e w }
+  pub load-answered : {z : ℤ} {u : Updated} {none : Jobs} → c ≡ Load z → u ≡ withoutPlaces (loaded (s .plan) (s .jobs) z) → none ≡ jobsWith []
+      → answered s l ≡ by-answer u none
+  unfolding outcome
+  load-answered e led empty = as-read e ∙ (λ i. by-answer (sym led i) (sym empty i))
 
-  pub kept-refused : (job : Job) → 32 ≤ s .jobs .count → Written out 0 (refusalText TooManyJobs) after n → Gives (kept s job) out after (record { session = s; len = n })
-  kept-refused job full w = simp (le-ltb (s .jobs .count) 32 full) (record { session = refl; text = w })
+  pub update-answered : {id earliest latest : ℤ} {u : Updated} → c ≡ Update id earliest latest → u ≡ updated (s .plan) id earliest latest
+      → answered s l ≡ by-answer u (s .jobs)
+  unfolding outcome
+  update-answered e led = as-read e ∙ (λ i. by-answer (sym led i) (s .jobs))
 
-module _ {out : List ℕ} (s : Session) where
-  pub kept-more : (job : Job) (jobs : Jobs) → s .jobs .count < 32 → jobs ≡ keeping (s .jobs) job → Gives (kept s job) out out (record { session = record { plan = s .plan; jobs = jobs }; len = 0 })
-  kept-more job jobs room e = simp (lt-ltb (s .jobs .count) 32 room) (record { session = λ i. record { plan = s .plan; jobs = e i }; text = written-none out 0 (omega arith) })
+  keeps : (job : Job) (room : Bool)
+      → cond room (record { session = record { plan = s .plan; jobs = keeping (s .jobs) job }; text = [] }) (refused s TooManyJobs)
+      ≡ record { session = record { plan = s .plan; jobs = cond room (keeping (s .jobs) job) (s .jobs) }; text = cond room [] (refusalText TooManyJobs) }
+  keeps job true = refl
+  keeps job false = refl
+
+  pub keep-answered : {job : Job} {jobs : Jobs} → c ≡ Keep job → jobs ≡ moreKept (s .jobs) job → answered s l ≡ by-telling s c jobs
+  unfolding outcome told
+  keep-answered {job} e more = as-read e ∙ keeps job (ltb (s .jobs .count) 32) ∙ (λ i. by-telling s (sym e i) (sym more i))
+
+  -- a command that is no load and no update, and keeps no job
+  others : (d : Command) → OneOf (0 ∷ 3 ∷ 4 ∷ 5 ∷ []) (tagOf the-type d) → OneOf (1 ∷ 2 ∷ 3 ∷ 4 ∷ 5 ∷ []) (tagOf the-type d) → outcome s d ≡ by-telling s d (s .jobs)
+  unfolding outcome told
+  others (Keep job) told kept = absurd (miss (1 ∷ 2 ∷ 3 ∷ 4 ∷ 5 ∷ []) 0 tt kept)
+  others (Load capacity) told kept = absurd (miss (0 ∷ 3 ∷ 4 ∷ 5 ∷ []) 1 tt told)
+  others (Update id earliest latest) told kept = absurd (miss (0 ∷ 3 ∷ 4 ∷ 5 ∷ []) 2 tt told)
+  others (Fit id) told kept = refl
+  others Rows told kept = refl
+  others Unreadable told kept = refl
+
+  pub other-answered : OneOf (0 ∷ 3 ∷ 4 ∷ 5 ∷ []) (tagOf the-type c) → OneOf (1 ∷ 2 ∷ 3 ∷ 4 ∷ 5 ∷ []) (tagOf the-type c) → answered s l ≡ by-telling s c (s .jobs)
+  other-answered told kept = as-read refl ∙ others c told kept
 
 pub no-jobs-held : Held 32 noJob (jobsWith [] .list) 0 []
 no-jobs-held = record { is = refl; counts = refl; fits = omega arith }
 
--- an outcome that was given, as the slice shows it
-pub answers-of : {o : Outcome} {out after : List ℕ} {r : Answered} → Gives o out after r → Answers o out after r
-answers-of g =
-    record {
-      session = g .session;
-      len = omega (arith, g .text .place);
-      text = written-front (g .text);
-      fits = g .text .fits;
-    }
+-- the jobs with one more are held where those before are
+module _ (jobs : Jobs) (job : Job) (held : Held 32 noJob (jobs .list) (jobs .count) (jobsOf jobs)) where
+  abbrev HeldJobs : Jobs → Type 0
+  HeldJobs js = Held 32 noJob (js .list) (js .count) (jobsOf js)
+
+  more-held : (room : Bool) → ltb (jobs .count) 32 ≡ room → HeldJobs (cond room (keeping jobs job) jobs)
+  more-held true t =
+      let lt = ltb-true (jobs .count) 32 t in
+      subst HeldJobs (sym (keeping-more jobs job lt)) (held-self (held-push held job lt))
+  more-held false t = held
+
+  pub more-kept-held : HeldJobs (moreKept jobs job)
+  more-kept-held = more-held (ltb (jobs .count) 32) refl

@@ -1,29 +1,13 @@
--- A byte goes behind the line until that is full, and a line feed ends it, by one step of `filling`.
+-- A byte goes behind the line until that is full, and a line feed ends it, by one step of `gathered`.
 -- Assumes nothing.
 use mathlib.Core.Path.{_≡_}
-use mathlib.Core.Bool.{true, false}
 use mathlib.Core.List.{List, [], _∷_, _++_}
-use Prim.Native.Nat.{ℕ, _+_, _≤_, _<_}
-use native.Mathlib.Numerals.{add-one}
-use borrow.Author.Tests.{eq-eqb, ne-eqb, lt-ltb, le-ltb}
-use lib.ListN.{length, drop, getD, drop-of-length-le}
-use lib.Seq.{drop-cons}
+use Prim.Native.Nat.{ℕ, _≤_, _<_}
+use borrow.Author.Tests.{lt-ltb, le-ltb}
+use lib.ListN.{length}
 use Rattle.time_table.specs.Held.{Held}
 use Rattle.command.specs.declared.lines.Reader.{Reader}
-use Rattle.command.specs.Lines.{readerOf, grown, filling, readerRoom}
-
-module _ (chunk l : List ℕ) (at : ℕ) where
-  pub filling-end : length chunk ≤ at → filling l at (drop at chunk) ≡ record { reader = readerOf l; next = at; complete = false }
-  unfolding filling
-  filling-end past = rw (drop-of-length-le chunk past)
-
-  pub filling-feed : at < length chunk → getD chunk at 0 ≡ 10 → filling l at (drop at chunk) ≡ record { reader = readerOf l; next = at + 1; complete = true }
-  unfolding filling
-  filling-feed inside feed = rw (drop-cons chunk at 0 inside) (simp (eq-eqb (getD chunk at 0) 10 feed))
-
-  pub filling-more : at < length chunk → (getD chunk at 0 ≡ 10 → ⊥) → filling l at (drop at chunk) ≡ filling (grown l (getD chunk at 0)) (at + 1) (drop (at + 1) chunk)
-  unfolding filling
-  filling-more inside other = rw (drop-cons chunk at 0 inside, add-one at) (simp (ne-eqb (getD chunk at 0) 10 other))
+use Rattle.command.specs.Lines.{readerOf, grown, readerRoom}
 
 pub grown-more : (l : List ℕ) (b : ℕ) → length l < readerRoom → grown l b ≡ l ++ b ∷ []
 grown-more l b room = simp (lt-ltb (length l) readerRoom room)

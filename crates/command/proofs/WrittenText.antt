@@ -26,6 +26,10 @@ module _ {out after : List ℕ} {at m : ℕ} {s : List ℕ} where
         fits = omega (arith, w .fits, written-length v);
       }
 
+-- the same text in other words
+pub written-as : {out text text' after : List ℕ} {at next : ℕ} → Written out at text after next → text ≡ text' → Written out at text' after next
+written-as w e = rw e at w
+
 -- nothing was put
 pub written-none : (out : List ℕ) (at : ℕ) → at ≤ length out → Written out at [] out at
 written-none out at h = record { bytes = refl; place = omega arith; fits = h }

@@ -11,4 +11,3 @@ pub mod PrintedAnswers
 pub mod Calls
 pub mod TableLines
 pub mod Listing
-pub mod Unique

@@ -1,17 +1,17 @@
 -- Lines from bytes, and what a session prints for them.
 use mathlib.Core.Path.{_≡_}
-use mathlib.Core.Bool.{true, false, cond}
+use mathlib.Core.Bool.{Bool, cond}
 use mathlib.Core.List.{List, [], _∷_, _++_}
 use Prim.Native.Nat.{ℕ, _+_, _≤_, _<_}
-use lib.Dec.{ltb, eqb}
+use lib.Dec.{ltb, leb, eqb}
 use lib.ListN.{length, take, drop}
 use Rattle.time_table.specs.Held.{pad, Held}
 use Rattle.command.specs.declared.Session.{Session}
 use Rattle.command.specs.declared.lines.Reader.{Reader}
 use Rattle.command.specs.declared.lines.State.{State}
-use Rattle.command.specs.declared.lines.Filled.{Filled}
 use Rattle.command.specs.declared.lines.Served.{Served}
 use Rattle.command.specs.Grammar.{lineLimit}
+use Rattle.command.specs.Text.{longest}
 use Rattle.command.specs.Sessions.{Ready, freshSession, answered}
 
 -- the lines of a stream of bytes, after those of a line that is not complete; the last may lack its line feed
@@ -63,11 +63,6 @@ HeldLine reader = Held readerRoom 0 (reader .line) (reader .len) (bytesOf reader
 abbrev pub grown : List ℕ → ℕ → List ℕ
 grown l b = cond (ltb (length l) readerRoom) (l ++ b ∷ []) l
 
--- the bytes up to the first line feed, or all, that stand from a place on
-unfoldable pub filling : List ℕ → ℕ → List ℕ → Filled
-filling l at [] = record { reader = readerOf l; next = at; complete = false }
-filling l at (b ∷ bs) = cond (eqb b 10) (record { reader = readerOf l; next = at + 1; complete = true }) (filling (grown l b) (at + 1) bs)
-
 -- a state whose session is ready and whose reader holds a line
 pub record ReadyState (state : State) : Type 0 where
   pub session : Ready (state .session)
@@ -76,51 +71,72 @@ pub record ReadyState (state : State) : Type 0 where
 abbrev pub freshState : State
 freshState = record { session = freshSession; reader = readerOf [] }
 
--- what bytes lead to: the state afterwards, the place behind the bytes that were taken, and what is printed
+-- what a byte leads to: the state afterwards, and what is printed
 pub record Step : Type 0 where
+  pub state : State
+  pub text : List ℕ
+
+-- a line feed ends the line, which is answered; any other byte makes it longer
+abbrev pub lineEnded : State → Step
+lineEnded s =
+    record {
+      state = record { session = answered (s .session) (bytesOf (s .reader)) .session; reader = readerOf [] };
+      text = answered (s .session) (bytesOf (s .reader)) .text;
+    }
+
+abbrev pub lineGrown : State → ℕ → Step
+lineGrown s b = record { state = record { session = s .session; reader = readerOf (grown (bytesOf (s .reader)) b) }; text = [] }
+
+abbrev pub byteTaken : State → ℕ → Step
+byteTaken s b = cond (eqb b 10) (lineEnded s) (lineGrown s b)
+
+-- what some bytes lead to: the state afterwards, the place behind those that were taken, and what is printed
+pub record Gathered : Type 0 where
   pub state : State
   pub next : ℕ
   pub text : List ℕ
 
-abbrev pub lineTaken : State → Filled → Step
-lineTaken state f =
+abbrev pub gather : Gathered → ℕ → Gathered
+gather g b =
     record {
-      state = record { session = answered (state .session) (bytesOf (f .reader)) .session; reader = readerOf [] };
-      next = f .next;
-      text = answered (state .session) (bytesOf (f .reader)) .text;
+      state = byteTaken (g .state) b .state;
+      next = g .next + 1;
+      text = g .text ++ byteTaken (g .state) b .text;
     }
 
-abbrev pub bytesTaken : State → Filled → Step
-bytesTaken state f = record { state = record { session = state .session; reader = f .reader }; next = f .next; text = [] }
+-- the bytes are taken one by one, while there is room for one more answer
+unfoldable pub gathered : ℕ → Gathered → List ℕ → Gathered
+gathered room g [] = g
+gathered room g (b ∷ bs) = cond (leb (length (g .text) + longest) room) (gathered room (gather g b) bs) g
 
-abbrev pub taken : State → Filled → Step
-taken state f = cond (f .complete) (lineTaken state f) (bytesTaken state f)
-
-unfoldable pub served : State → ℕ → List ℕ → Step
-served state at bytes = taken state (filling (bytesOf (state .reader)) at bytes)
+abbrev pub served : ℕ → State → ℕ → List ℕ → Gathered
+served room s at bytes = gathered room (record { state = s; next = at; text = [] }) bytes
 
 pub record Serves (s : State) (bytes : List ℕ) (at : ℕ) (r : Served) (out after : List ℕ) : Type 0 where
-  pub state : r .state ≡ served s at bytes .state
-  pub next : r .next ≡ served s at bytes .next
-  pub len : r .len ≡ length (served s at bytes .text)
-  pub text : after ≡ served s at bytes .text ++ drop (r .len) out
+  pub state : r .state ≡ served (length out) s at bytes .state
+  pub next : r .next ≡ served (length out) s at bytes .next
+  pub len : r .len ≡ length (served (length out) s at bytes .text)
+  pub text : after ≡ served (length out) s at bytes .text ++ drop (r .len) out
   pub fits : r .len ≤ length out
 
--- what is printed at the end of the input: the answer of the last line, if bytes of it are there
-unfoldable pub finished : State → List ℕ
-finished state = cond (eqb (state .reader .len) 0) [] (answered (state .session) (bytesOf (state .reader)) .text)
+-- whether a line is begun, and the bytes that the end of the input stands for: the line feed that such a line lacks
+abbrev pub begun : State → Bool
+begun s = ltb 0 (s .reader .len)
+
+abbrev pub lastFeed : State → List ℕ
+lastFeed s = cond (begun s) (10 ∷ []) []
 
 -- the pieces of an input, one behind the other
 unfoldable pub joined : List (List ℕ) → List ℕ
 joined [] = []
 joined (piece ∷ pieces) = piece ++ joined pieces
 
--- what the program prints from a state on, at a place of a piece and with pieces to come: it serves the piece line by line, then the next, and
--- at the end of the input it finishes
-pub data Prints : State → List ℕ → ℕ → List (List ℕ) → List ℕ → Type 0 where
-  line : {s : State} {piece : List ℕ} {at : ℕ} {pieces : List (List ℕ)} {text : List ℕ} → at < length piece
-      → Prints (served s at (drop at piece) .state) piece (served s at (drop at piece) .next) pieces text
-      → Prints s piece at pieces (served s at (drop at piece) .text ++ text)
+-- what the program prints from a state on, at a place of a piece and with pieces to come, where the lent slice has so much room: what it gathers from
+-- the piece, as often as the room asks for, then what it gathers from the next; and at the end of the input from the line feed that is lacking
+pub data Prints (room : ℕ) : State → List ℕ → ℕ → List (List ℕ) → List ℕ → Type 0 where
+  some : {s : State} {piece : List ℕ} {at : ℕ} {pieces : List (List ℕ)} {text : List ℕ} → at < length piece
+      → Prints room (served room s at (drop at piece) .state) piece (served room s at (drop at piece) .next) pieces text
+      → Prints room s piece at pieces (served room s at (drop at piece) .text ++ text)
   next : {s : State} {piece more : List ℕ} {at : ℕ} {pieces : List (List ℕ)} {text : List ℕ} → length piece ≤ at
-      → Prints s more 0 pieces text → Prints s piece at (more ∷ pieces) text
-  end : {s : State} {piece : List ℕ} {at : ℕ} → length piece ≤ at → Prints s piece at [] (finished s)
+      → Prints room s more 0 pieces text → Prints room s piece at (more ∷ pieces) text
+  end : {s : State} {piece : List ℕ} {at : ℕ} → length piece ≤ at → Prints room s piece at [] (served room s 0 (lastFeed s) .text)

@@ -1,19 +1,20 @@
 -- A session: what each command does to it and prints.
-use mathlib.Core.Path.{_≡_}
 use mathlib.Core.Bool.{cond}
-use mathlib.Core.List.{List, [], _++_}
-use Prim.Native.Nat.{ℕ, _≤_}
+use mathlib.Core.List.{List, []}
+use Prim.Native.Nat.{ℕ}
 use lib.Dec.{ltb}
 use lib.IntN.{ℤ}
-use lib.ListN.{length, drop}
 use Rattle.time_table.specs.Held.{Held}
 use Rattle.planner.specs.declared.Job.{Job}
+use Rattle.planner.specs.declared.Jobs.{Jobs}
 use Rattle.planner.specs.declared.Plan.{Plan}
 use Rattle.planner.specs.declared.Answer.{Answer}
 use Rattle.planner.specs.declared.RowRecord.{RowRecord}
+use Rattle.planner.specs.declared.Updated.{Updated}
 use Rattle.planner.specs.declared.Refusal.{Refusal}
 use Rattle.planner.specs.declared.Refusal.the-variants.{TooManyJobs}
 use Rattle.planner.specs.Sound.{Sound}
+use Rattle.planner.specs.Records.{noRecord}
 use Rattle.planner.specs.Answers.{freshPlan}
 use Rattle.planner.specs.Given.{noJob}
 use Rattle.planner.specs.Kept.{jobsWith, keeping}
@@ -21,11 +22,9 @@ use Rattle.planner.specs.Loads.{jobsOf, loaded}
 use Rattle.planner.specs.Updates.{updated}
 use Rattle.planner.specs.Questions.{fitOf, rowsShown}
 use Rattle.command.specs.declared.Session.{Session}
-use Rattle.command.specs.declared.Answered.{Answered}
 use Rattle.command.specs.declared.Command.{Command}
 use Rattle.command.specs.Grammar.{commandOf}
 use Rattle.command.specs.Text.{refusalText, answerText, fitText, tableText}
-use Rattle.command.specs.Written.{Written}
 
 -- a session whose plan is sound and whose jobs are at most 32; only this crate makes sessions, and each that it hands out is ready
 pub record Ready (s : Session) : Type 0 where
@@ -85,14 +84,18 @@ outcome s Command.Unreadable = refused s Refusal.Unreadable
 abbrev pub answered : Session → List ℕ → Outcome
 answered s line = outcome s (commandOf line)
 
--- a function gave this outcome: the session, and the text at the front of the lent slice
-pub record Gives (o : Outcome) (out after : List ℕ) (r : Answered) : Type 0 where
-  pub session : r .session ≡ o .session
-  pub text : Written out 0 (o .text) after (r .len)
+-- how a line is answered step by step: a plan with nothing answered yet, the jobs with one more, and what a command prints that leaves the plan as it
+-- is; a load and an update print by the planner's answer
+abbrev pub unanswered : Plan → Updated
+unanswered plan = record { plan = plan; answer = Answer.Fits; row = noRecord }
 
--- the same, read off the slice: the text in front, its length, and behind it what was there
-pub record Answers (o : Outcome) (out after : List ℕ) (r : Answered) : Type 0 where
-  pub session : r .session ≡ o .session
-  pub len : r .len ≡ length (o .text)
-  pub text : after ≡ o .text ++ drop (r .len) out
-  pub fits : r .len ≤ length out
+abbrev pub moreKept : Jobs → Job → Jobs
+moreKept jobs job = cond (ltb (jobs .count) 32) (keeping jobs job) jobs
+
+unfoldable pub told : Plan → ℕ → Command → List ℕ
+told plan kept (Command.Keep job) = cond (ltb kept 32) [] (refusalText TooManyJobs)
+told plan kept (Command.Load capacity) = []
+told plan kept (Command.Update id earliest latest) = []
+told plan kept (Command.Fit id) = fitText (fitOf plan id)
+told plan kept Command.Rows = tableText (rowsShown plan)
+told plan kept Command.Unreadable = refusalText Refusal.Unreadable

@@ -25,9 +25,3 @@ pub struct Session {
     pub(crate) plan: Plan,
     pub(crate) jobs: Jobs,
 }
-
-// What a line leads to: the session afterwards, and how many bytes of the lent slice are the answer.
-pub struct Answered {
-    pub session: Session,
-    pub len: usize,
-}

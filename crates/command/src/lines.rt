@@ -1,11 +1,17 @@
 // Lines from bytes that arrive in pieces.
 ghost use mathlib.Core.Path.{_≡_};
-ghost use mathlib.Core.List.{[], _++_};
+ghost use mathlib.Core.List.{[]};
 ghost use Prim.Native.Nat.{_≤_};
-ghost use lib.ListN.{length, drop};
+ghost use lib.ListN.{length, take, drop};
+ghost use Rattle.time_table.specs.Held.{Held};
 ghost use Rattle.command.specs.Text.{longest};
-ghost use Rattle.command.specs.Lines.{bytesOf, readerOf, HeldLine, filling, ReadyState, freshState, Serves, finished};
+ghost use Rattle.command.specs.Lines.{readerRoom, readerOf, grown, ReadyState, freshState, begun, Serves};
+use crate::Command;
 use crate::Session;
+use crate::parse::command_of;
+use crate::sessions;
+use crate::text;
+use planner::Jobs;
 
 // The bytes of a line that is not complete, in `line` up to `len`. Past `Reader::LINE` one more byte is
 // kept, which makes the line too long to be read, and no others.
@@ -20,16 +26,8 @@ pub struct State {
     pub(crate) reader: Reader,
 }
 
-// What some bytes lead to: the line so far, where the bytes that are left start, and whether a line feed
-// was met.
-pub struct Filled {
-    pub reader: Reader,
-    pub next: usize,
-    pub complete: bool,
-}
-
 // What some bytes lead to: the state afterwards, where the bytes that are left start, and how many bytes
-// of the lent slice are the answer.
+// of the lent slice are the answers.
 pub struct Served {
     pub state: State,
     pub next: usize,
@@ -53,35 +51,16 @@ impl Reader {
     }
 }
 
-// Takes bytes up to the first line feed, or all that are there.
-pub(crate) fn fill(reader: Reader, chunk: &[u8], from: usize) -> Filled
-    requires { ⌜ HeldLine reader ⌝ }
-    ensures { λ r. ⌜ r ≡ filling (bytesOf reader) from (drop from (now (chunk .entry))) ⌝ }
-    ensures { λ r. ⌜ HeldLine (r .reader) ⌝ }
+// Puts a byte behind a line, unless that is too long already, and gives the line's length.
+pub(crate) fn push(line: &mut [u8], len: usize, byte: u8) -> usize
+    requires { ⌜ Held readerRoom 0 (now line) len (take len (now line)) ⌝ }
+    ensures { λ r. ⌜ Held readerRoom 0 (now (line .exit)) r (grown (take len (now (line .entry))) byte) ⌝ }
 {
-    let mut line = reader.line;
-    let mut len = reader.len;
-    let mut at = from;
-    while at < chunk.len() {
-        let byte = chunk[at];
-        at += 1;
-        if byte == b'\n' {
-            return Filled {
-                reader: Reader { line, len },
-                next: at,
-                complete: true,
-            };
-        }
-        if len < Reader::ROOM {
-            line[len] = byte;
-            len += 1;
-        }
+    if len < Reader::ROOM {
+        line[len] = byte;
+        return len + 1;
     }
-    Filled {
-        reader: Reader { line, len },
-        next: at,
-        complete: false,
-    }
+    len
 }
 
 impl State {
@@ -96,54 +75,70 @@ impl State {
         }
     }
 
-    // Takes bytes up to the first line feed, and answers the line that it ends.
+    // Whether a line is begun.
+    pub fn begun(self) -> bool
+        ensures { λ r. ⌜ r ≡ begun self ⌝ }
+    {
+        0 < self.reader.len
+    }
+
+    // Takes bytes from a place on and answers each line that a line feed ends, while the lent slice has
+    // room for one more answer. What a plan led to last is one variable, so that an update goes straight
+    // to its place.
     pub fn serve(self, chunk: &[u8], from: usize, out: &mut [u8]) -> Served
         requires { ⌜ ReadyState self ⌝ }
         requires { ⌜ longest ≤ length (now out) ⌝ }
         ensures { λ r. ⌜ Serves self (drop from (now (chunk .entry))) from r (now (out .entry)) (now (out .exit)) ⌝ }
         ensures { λ r. ⌜ ReadyState (r .state) ⌝ }
     {
-        let session = self.session;
-        let filled = fill(self.reader, chunk, from);
-        let reader = filled.reader;
-        let next = filled.next;
-        if !filled.complete {
-            return Served {
-                state: State { session, reader },
-                next,
-                len: 0,
-            };
+        let mut last = sessions::unanswered(self.session.plan);
+        let mut jobs = self.session.jobs;
+        let mut line = self.reader.line;
+        let mut len = self.reader.len;
+        let mut at = from;
+        let mut used = 0;
+        while at < chunk.len() && used + text::LONGEST <= out.len() {
+            let byte = chunk[at];
+            at += 1;
+            if byte != b'\n' {
+                len = push(&mut line, len, byte);
+            } else {
+                let command = command_of(&line[..len]);
+                line = [0u8; Reader::ROOM];
+                len = 0;
+                match command {
+                    Command::Load(capacity) => {
+                        last = sessions::load(last.plan, jobs, capacity);
+                        jobs = Jobs::empty();
+                        let answer = last.answer;
+                        used = text::put_answer(out, used, answer, last.row);
+                    }
+                    Command::Update {
+                        id,
+                        earliest,
+                        latest,
+                    } => {
+                        last = last.plan.update(id, earliest, latest);
+                        let answer = last.answer;
+                        used = text::put_answer(out, used, answer, last.row);
+                    }
+                    _ => {
+                        used = sessions::tell(last.plan, jobs.count, command, out, used);
+                        if let Command::Keep(job) = command {
+                            jobs = sessions::keep(jobs, job);
+                        }
+                    }
+                }
+            }
         }
-        let line = reader.line;
-        let n = reader.len;
-        let answered = session.answer(&line[..n], out);
-        let after = answered.session;
-        let empty = Reader::empty();
+        let plan = last.plan;
         Served {
             state: State {
-                session: after,
-                reader: empty,
+                session: Session { plan, jobs },
+                reader: Reader { line, len },
             },
-            next,
-            len: answered.len,
+            next: at,
+            len: used,
         }
-    }
-
-    // At the end of the input: answers the last line, if bytes of it are there.
-    pub fn finish(self, out: &mut [u8]) -> usize
-        requires { ⌜ ReadyState self ⌝ }
-        requires { ⌜ longest ≤ length (now out) ⌝ }
-        ensures { λ r. ⌜ r ≡ length (finished self) ⌝ }
-        ensures { λ r. ⌜ now (out .exit) ≡ finished self ++ drop r (now (out .entry)) ⌝ }
-        ensures { λ r. ⌜ r ≤ length (now (out .entry)) ⌝ }
-    {
-        let reader = self.reader;
-        let n = reader.len;
-        if n == 0 {
-            return 0;
-        }
-        let line = reader.line;
-        let answered = self.session.answer(&line[..n], out);
-        answered.len
     }
 }

@@ -1,136 +1,86 @@
 // A session: what each command does to it and prints.
 ghost use mathlib.Core.Path.{_≡_};
-ghost use Prim.Native.Nat.{_≤_};
+ghost use Prim.Native.Nat.{_+_, _≤_};
 ghost use lib.ListN.{length};
-ghost use Rattle.planner.specs.declared.Refusal.the-variants.{Unreadable};
+ghost use Rattle.planner.specs.History.{withoutPlaces};
+ghost use Rattle.planner.specs.Loads.{loaded};
+ghost use Rattle.planner.specs.Sound.{Sound};
 ghost use Rattle.command.specs.Text.{longest};
-ghost use Rattle.command.specs.Sessions.{Ready, Gives, freshSession, refused, kept, loads, updates, asksFit, asksRows, outcome, answered, Answers};
-use crate::Answered;
+ghost use Rattle.command.specs.Written.{Written};
+ghost use Rattle.command.specs.Sessions.{Ready, freshSession, unanswered, moreKept, told};
 use crate::Command;
 use crate::Session;
-use crate::parse::command_of;
 use crate::text;
+use planner::Answer;
 use planner::Job;
 use planner::Jobs;
 use planner::Plan;
 use planner::Refusal;
+use planner::Updated;
+use planner::records;
 
-// A job is kept for the next load, unless 32 are.
-pub(crate) fn keep(session: Session, job: Job, out: &mut [u8]) -> Answered
-    requires { ⌜ Ready session ⌝ }
-    requires { ⌜ longest ≤ length (now out) ⌝ }
-    ensures { λ r. ⌜ Gives (kept session job) (now (out .entry)) (now (out .exit)) r ⌝ }
-    ensures { λ r. ⌜ Ready (r .session) ⌝ }
+// A plan, with nothing answered yet.
+pub(crate) fn unanswered(plan: Plan) -> Updated
+    ensures { λ r. ⌜ r ≡ unanswered plan ⌝ }
 {
-    if Plan::JOBS <= session.jobs.count {
-        let len = text::put_refusal(out, 0, Refusal::TooManyJobs);
-        return Answered { session, len };
-    }
-    let plan = session.plan;
-    let jobs = session.jobs.keep(job);
-    Answered {
-        session: Session { plan, jobs },
-        len: 0,
+    Updated {
+        plan,
+        answer: Answer::Fits,
+        row: records::no_record(),
     }
 }
 
-// The kept jobs are loaded, and the list is empty again.
-pub(crate) fn load(session: Session, capacity: i32, out: &mut [u8]) -> Answered
-    requires { ⌜ Ready session ⌝ }
-    requires { ⌜ longest ≤ length (now out) ⌝ }
-    ensures { λ r. ⌜ Gives (loads session capacity) (now (out .entry)) (now (out .exit)) r ⌝ }
-    ensures { λ r. ⌜ Ready (r .session) ⌝ }
+// What a load of the kept jobs leads to.
+pub(crate) fn load(plan: Plan, jobs: Jobs, capacity: i32) -> Updated
+    requires { ⌜ Sound plan ⌝ }
+    ensures { λ r. ⌜ r ≡ withoutPlaces (loaded plan jobs capacity) ⌝ }
+    ensures { λ r. ⌜ Sound (r .plan) ⌝ }
 {
-    let loaded = session.plan.load(session.jobs, capacity);
+    let loaded = plan.load(jobs, capacity);
+    let after = loaded.plan;
     let answer = loaded.answer;
     let row = loaded.row;
-    let plan = loaded.plan;
-    let len = text::put_answer(out, 0, answer, row);
-    let jobs = Jobs::empty();
-    Answered {
-        session: Session { plan, jobs },
-        len,
+    Updated {
+        plan: after,
+        answer,
+        row,
     }
 }
 
-// A task gets other bounds.
-pub(crate) fn update(
-    session: Session,
-    id: i32,
-    earliest: i32,
-    latest: i32,
-    out: &mut [u8],
-) -> Answered
-    requires { ⌜ Ready session ⌝ }
-    requires { ⌜ longest ≤ length (now out) ⌝ }
-    ensures { λ r. ⌜ Gives (updates session id earliest latest) (now (out .entry)) (now (out .exit)) r ⌝ }
-    ensures { λ r. ⌜ Ready (r .session) ⌝ }
+// The jobs with one more, unless 32 are kept.
+pub(crate) fn keep(jobs: Jobs, job: Job) -> Jobs
+    ensures { λ r. ⌜ r ≡ moreKept jobs job ⌝ }
 {
-    let updated = session.plan.update(id, earliest, latest);
-    let answer = updated.answer;
-    let row = updated.row;
-    let plan = updated.plan;
-    let jobs = session.jobs;
-    let len = text::put_answer(out, 0, answer, row);
-    Answered {
-        session: Session { plan, jobs },
-        len,
+    if jobs.count < Plan::JOBS {
+        return jobs.keep(job);
     }
+    jobs
 }
 
-// The first fit of a task.
-pub(crate) fn fit(session: Session, id: i32, out: &mut [u8]) -> Answered
-    requires { ⌜ Ready session ⌝ }
-    requires { ⌜ longest ≤ length (now out) ⌝ }
-    ensures { λ r. ⌜ Gives (asksFit session id) (now (out .entry)) (now (out .exit)) r ⌝ }
-    ensures { λ r. ⌜ Ready (r .session) ⌝ }
-{
-    let found = session.plan.first_fit(id);
-    let len = text::put_fit(out, 0, found);
-    Answered { session, len }
-}
-
-// The rows of the plan's table.
-pub(crate) fn rows(session: Session, out: &mut [u8]) -> Answered
-    requires { ⌜ Ready session ⌝ }
-    requires { ⌜ longest ≤ length (now out) ⌝ }
-    ensures { λ r. ⌜ Gives (asksRows session) (now (out .entry)) (now (out .exit)) r ⌝ }
-    ensures { λ r. ⌜ Ready (r .session) ⌝ }
-{
-    let shown = session.plan.rows();
-    let len = text::put_table(out, 0, shown);
-    Answered { session, len }
-}
-
-// A line that cannot be read.
-pub(crate) fn unreadable(session: Session, out: &mut [u8]) -> Answered
-    requires { ⌜ Ready session ⌝ }
-    requires { ⌜ longest ≤ length (now out) ⌝ }
-    ensures { λ r. ⌜ Gives (refused session Unreadable) (now (out .entry)) (now (out .exit)) r ⌝ }
-    ensures { λ r. ⌜ Ready (r .session) ⌝ }
-{
-    let len = text::put_refusal(out, 0, Refusal::Unreadable);
-    Answered { session, len }
-}
-
-// Does what a command asks for.
-pub(crate) fn perform(session: Session, command: Command, out: &mut [u8]) -> Answered
-    requires { ⌜ Ready session ⌝ }
-    requires { ⌜ longest ≤ length (now out) ⌝ }
-    ensures { λ r. ⌜ Gives (outcome session command) (now (out .entry)) (now (out .exit)) r ⌝ }
-    ensures { λ r. ⌜ Ready (r .session) ⌝ }
+// What a command prints that leaves the plan as it is. A load and an update print nothing here.
+pub(crate) fn tell(plan: Plan, kept: usize, command: Command, out: &mut [u8], at: usize) -> usize
+    requires { ⌜ Sound plan ⌝ }
+    requires { ⌜ at + longest ≤ length (now out) ⌝ }
+    ensures { λ r. ⌜ Written (now (out .entry)) at (told plan kept command) (now (out .exit)) r ⌝ }
 {
     match command {
-        Command::Keep(job) => keep(session, job, out),
-        Command::Load(capacity) => load(session, capacity, out),
-        Command::Update {
-            id,
-            earliest,
-            latest,
-        } => update(session, id, earliest, latest, out),
-        Command::Fit(id) => fit(session, id, out),
-        Command::Rows => rows(session, out),
-        Command::Unreadable => unreadable(session, out),
+        Command::Keep(_) => {
+            if kept < Plan::JOBS {
+                return at;
+            }
+            text::put_refusal(out, at, Refusal::TooManyJobs)
+        }
+        Command::Load(_) => at,
+        Command::Update { .. } => at,
+        Command::Fit(id) => {
+            let found = plan.first_fit(id);
+            text::put_fit(out, at, found)
+        }
+        Command::Rows => {
+            let shown = plan.rows();
+            text::put_table(out, at, shown)
+        }
+        Command::Unreadable => text::put_refusal(out, at, Refusal::Unreadable),
     }
 }
 
@@ -143,15 +93,5 @@ impl Session {
         let plan = Plan::fresh();
         let jobs = Jobs::empty();
         Session { plan, jobs }
-    }
-
-    // Does what a line asks for, and puts the answer at the front of the lent slice.
-    pub fn answer(self, line: &[u8], out: &mut [u8]) -> Answered
-        requires { ⌜ Ready self ⌝ }
-        requires { ⌜ longest ≤ length (now out) ⌝ }
-        ensures { λ r. ⌜ Answers (answered self (now (line .entry))) (now (out .entry)) (now (out .exit)) r ⌝ }
-        ensures { λ r. ⌜ Ready (r .session) ⌝ }
-    {
-        perform(self, command_of(line), out)
     }
 }

@@ -17,6 +17,9 @@ use planner::Refusal;
 use planner::RowRecord;
 use planner::Rows;
 
+// The bytes that an answer takes at most: 128 rows of 400 bytes, and the line behind them.
+pub const LONGEST: usize = 51300;
+
 // One byte.
 pub(crate) fn put_byte(out: &mut [u8], at: usize, byte: u8) -> usize
     requires { ⌜ Room (now out) at (byte ∷ []) ⌝ }

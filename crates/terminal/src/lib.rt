@@ -1,20 +1,45 @@
 // The loop of the programs: commands from standard input, answers to standard output.
+ghost use mathlib.Core.Path.{_≡_};
 ghost use Prim.Native.Nat.{_≤_, _<_};
 ghost use lib.ListN.{length};
 ghost use Rattle.command.specs.Text.{longest};
 ghost use Rattle.command.specs.Lines.{ReadyState};
+ghost use Rattle.terminal.specs.Endings.{statusOf};
 use command::lines::State;
 use libc::STDIN_FILENO;
 use libc::STDOUT_FILENO;
 
-// The state after some bytes, and whether to go on: not at the end of the input, and not once an answer
-// cannot be written.
-struct Reading {
-    state: State,
-    more: bool,
+// How a run ends: at the end of the input, where a read fails, or where an answer cannot be written. `Open`
+// is a run that goes on.
+pub enum Ending {
+    Open,
+    Over,
+    Unread,
+    Unwritten,
 }
 
-// Answers each line that these bytes end, up to an answer that cannot be written.
+impl Ending {
+    // The exit status of a program that ends so: 0 exactly if all input was answered.
+    pub fn status(self) -> i32
+        ensures { λ r. ⌜ r ≡ statusOf self ⌝ }
+    {
+        match self {
+            Ending::Open => 1,
+            Ending::Over => 0,
+            Ending::Unread => 1,
+            Ending::Unwritten => 2,
+        }
+    }
+}
+
+// The state after some bytes, and whether to go on.
+struct Reading {
+    state: State,
+    ending: Ending,
+}
+
+// Answers the lines that these bytes end. The answers are gathered and written together, at the latest
+// when the bytes are used up. An answer that cannot be written is the end.
 fn serve_all(from: State, chunk: &[u8], out: &mut [u8]) -> Reading
     requires { ⌜ ReadyState from ⌝ }
     requires { ⌜ longest ≤ length (now out) ⌝ }
@@ -29,24 +54,44 @@ fn serve_all(from: State, chunk: &[u8], out: &mut [u8]) -> Reading
         state = served.state;
         at = served.next;
         if !written {
-            return Reading { state, more: false };
+            return Reading {
+                state,
+                ending: Ending::Unwritten,
+            };
         }
     }
-    Reading { state, more: true }
+    Reading {
+        state,
+        ending: Ending::Open,
+    }
 }
 
-// Answers the line that the end of the input ends, if one was begun.
+// At the end of the input: a line that was begun is served the line feed that it lacks.
 fn serve_last(state: State, out: &mut [u8]) -> Reading
     requires { ⌜ ReadyState state ⌝ }
     requires { ⌜ longest ≤ length (now out) ⌝ }
     ensures { λ r. ⌜ ReadyState (r .state) ⌝ }
 {
-    let n = state.finish(out);
-    io::write_all(STDOUT_FILENO, &out[..n]);
-    Reading { state, more: false }
+    if !state.begun() {
+        return Reading {
+            state,
+            ending: Ending::Over,
+        };
+    }
+    let last = serve_all(state, b"\n", out);
+    let ending = last.ending;
+    if let Ending::Unwritten = ending {
+        return last;
+    }
+    let after = last.state;
+    Reading {
+        state: after,
+        ending: Ending::Over,
+    }
 }
 
-// Reads once, and answers the lines that are complete.
+// Reads once, and answers the lines that are complete. A read that fails is the end, and a line that was
+// begun is then not answered: nobody said that it was whole.
 fn read_some(state: State, out: &mut [u8]) -> Reading
     requires { ⌜ ReadyState state ⌝ }
     requires { ⌜ longest ≤ length (now out) ⌝ }
@@ -54,44 +99,49 @@ fn read_some(state: State, out: &mut [u8]) -> Reading
 {
     let mut buffer = io::buffer();
     let got = libc::read(STDIN_FILENO, &mut buffer);
-    if got <= 0 {
+    if got < 0 {
+        return Reading {
+            state,
+            ending: Ending::Unread,
+        };
+    }
+    if got == 0 {
         return serve_last(state, out);
     }
     let n = io::count(got, &buffer);
     serve_all(state, &buffer[..n], out)
 }
 
-// How many turns are left after one: none where there is no more to do.
-fn turns_left(turns: u64, more: bool) -> u64
+// How many turns are left after one: none where the run has ended.
+fn turns_left(turns: u64, ending: Ending) -> u64
     requires { ⌜ 0 < turns ⌝ }
     ensures { λ r. ⌜ r < turns ⌝ }
 {
-    if more { turns - 1 } else { 0 }
+    if let Ending::Open = ending {
+        return turns - 1;
+    }
+    0
 }
 
-// Reads and answers until the end of the input or an answer that cannot be written, and gives the last
-// state. A proved loop has to end, and nothing says that the input does. So the loop counts its turns
-// down, from a number that no run uses up.
-fn run(out: &mut [u8]) -> State
+// Reads and answers until the run ends, and says how. A proved loop has to end, and nothing says that the
+// input does. So the loop counts its turns down, from a number that no run uses up.
+fn run(out: &mut [u8]) -> Ending
     requires { ⌜ longest ≤ length (now out) ⌝ }
-    ensures { λ r. ⌜ ReadyState r ⌝ }
 {
     let mut state = State::new();
+    let mut ending = Ending::Open;
     let mut turns = u64::MAX;
     while turns > 0 {
         let reading = read_some(state, out);
         state = reading.state;
-        turns = turns_left(turns, reading.more);
+        ending = reading.ending;
+        turns = turns_left(turns, ending);
     }
-    state
+    ending
 }
 
-// Answers standard input on standard output, up to its end or an answer that cannot be written, and
-// gives the last state. A last line that lacks its line feed is answered, too, but the state is the one
-// before that.
-pub fn answer_input() -> State
-    ensures { λ r. ⌜ ReadyState r ⌝ }
-{
+// Answers standard input on standard output, and says how that ended.
+pub fn answer_input() -> Ending {
     let mut out = io::large_buffer();
     run(&mut out)
 }

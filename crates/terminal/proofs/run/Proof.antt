@@ -9,10 +9,10 @@ use Rattle.terminal.proofs.run.Statement.{statement}
 use Rattle.terminal.proofs.run.Tie as tie
 
 abbrev Inv-loop : tie.InvT-loop
-Inv-loop out₀ state₀ turns₀ out state turns = ReadyState state × (length out ≡ length out₀)
+Inv-loop out₀ state₀ ending₀ turns₀ out state ending turns = ReadyState state × (length out ≡ length out₀)
 
 abbrev μ-loop : tie.MeasureT-loop
-μ-loop out₀ state₀ turns₀ out state turns = turns
+μ-loop out₀ state₀ ending₀ turns₀ out state ending turns = turns
 
 new-requires : tie.Need-new-requires Inv-loop μ-loop
 new-requires c κs = search needs
@@ -40,7 +40,7 @@ same-length : tie.Need-same-length Inv-loop μ-loop
 same-length c = c .before .loop .inv .1
 
 returns : tie.Need-returns Inv-loop μ-loop
-returns c = c .before .loop .inv .0
+returns c = tt
 
 pub run-spec : {M : Type 1} → statement M
 run-spec =

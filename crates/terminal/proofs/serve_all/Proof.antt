@@ -52,7 +52,7 @@ loop-less c =
     let p = c .before .before .before .before .before .before in
     let l = p .before .before .before in
     let lt = p .before .before .loop-test .taken in
-    omega (arith, lt, p .serve .ensures .0 .next, served-further (l .loop .state) (l .loop .at) (now (l .before .before .before .args .chunk)) lt)
+    omega (arith, lt, p .serve .ensures .0 .next, served-further (length (l .loop .out)) (l .loop .state) (l .loop .at) (now (l .before .before .before .args .chunk)) (omega (arith, l .before .before .before .pre .1, l .loop .inv .1)) lt)
 
 loop-again : tie.Need-loop-again Inv-loop μ-loop
 loop-again c =

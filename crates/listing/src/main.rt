@@ -1,0 +1,4 @@
+// The program on document 01's listing.
+fn main() {
+    terminal::answer_input();
+}
