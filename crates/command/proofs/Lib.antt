@@ -15,7 +15,9 @@ pub mod ReadableLines
 pub mod PrintedNumbers
 pub mod PrintedAnswers
 pub mod Calls
+pub mod RowLines
 pub mod TableLines
+pub mod ReadBack
 pub mod Unreadable
 pub mod Unique
 pub mod Listing

@@ -11,4 +11,6 @@ pub mod PrintedAnswers
 pub mod Calls
 pub mod TableLines
 pub mod Listing
+pub mod ReadAnswers
+pub mod Replies
 pub mod Unique
