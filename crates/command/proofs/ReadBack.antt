@@ -5,7 +5,7 @@
 use mathlib.Core.Path.{_≡_, refl, sym, ap, _∙_, subst}
 use mathlib.Core.Bool.{Bool, true, false, cond}
 use mathlib.Core.List.{List, [], _∷_, _++_, map, flatMap, append-nil, append-assoc}
-use mathlib.Core.Option.{some}
+use mathlib.Core.Option.{some, Option·map}
 use Prim.Native.Nat.{ℕ, zero, suc, _+_, _-_, _*_, _^_, _≤_, _<_}
 use native.Mathlib.Omega.{arith}
 use borrow.Author.Tests.{ne-eqb, le-leb, lt-leb}
@@ -36,7 +36,7 @@ use Rattle.command.specs.Lines.{linesOf, NoFeed, LinesAre, rest, ends, o
 use Rattle.command.specs.ReadableLines.{AllDigits, valueOf, Digits, Numeral}
 use Rattle.command.specs.ReadableLines.{plain as plain-numeral, minus as minus-numeral}
 use Rattle.command.specs.PrintedNumbers.{Spells, plain, minus, SpellsAll, none, more, LetterLine, Ended, OneLine}
-use Rattle.command.specs.ReadAnswers.{Reply, withFirst, splitAt, readDigits, withoutMinus, withMinus, readNumber, readNumbers, readLetter, readRow, readFields, readLine, readPieces, readAnswers}
+use Rattle.command.specs.ReadAnswers.{Reply, withFirst, splitAt, readDigits, negative, readNumber, readNumbers, readLetter, readRow, readFields, readLine, readPieces, readAnswers}
 use Rattle.command.specs.Replies.{refusalReply, answerReply, fitReply, rowReply, rowReplies, repliesTo, repliesToLines}
 use Rattle.command.proofs.DecimalDigits.{decimal-short}
 use Rattle.command.proofs.LinesOf.{lines-are}
@@ -59,9 +59,9 @@ digits-read ds p = digits-behind ds 0 p ∙ ap some (omega arith)
 spelled-read : {f : List ℕ} {z : ℤ} → Spells f z → readNumber f ≡ some z
 unfolding readNumber
 spelled-read (plain {ds = []} s) = absurd (omega (arith, s .some))
-spelled-read (plain {ds = d ∷ ds} s) = rw (ne-eqb d 45 (λ e. omega (arith, s .all .0, e))) (ap withoutMinus (digits-read (d ∷ ds) (s .all)))
+spelled-read (plain {ds = d ∷ ds} s) = rw (ne-eqb d 45 (λ e. omega (arith, s .all .0, e))) (ap (Option·map pos) (digits-read (d ∷ ds) (s .all)))
 spelled-read (minus {ds = []} s h) = absurd (omega (arith, s .some))
-spelled-read (minus {ds = d ∷ ds} s h) = ap withMinus (digits-read (d ∷ ds) (s .all))
+spelled-read (minus {ds = d ∷ ds} s h) = ap (Option·map negative) (digits-read (d ∷ ds) (s .all))
 
 numbers-read : {fs : List (List ℕ)} {zs : List ℤ} → SpellsAll fs zs → readNumbers fs ≡ some zs
 unfolding readNumbers

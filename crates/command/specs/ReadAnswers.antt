@@ -2,7 +2,7 @@
 -- decimal with an optional minus. It knows nothing of how answers are written.
 use mathlib.Core.Bool.{cond, _&&_}
 use mathlib.Core.List.{List, [], _∷_}
-use mathlib.Core.Option.{Option, none, some}
+use mathlib.Core.Option.{Option, none, some, Option·map}
 use Prim.Native.Nat.{ℕ, _+_, _-_, _*_}
 use lib.Dec.{leb, eqb}
 use lib.IntN.{ℤ, pos, negℤ}
@@ -33,13 +33,8 @@ readDigits value [] = some value
 readDigits value (b ∷ bs) = cond (leb 48 b && leb b 57) (readDigits (value * 10 + (b - 48)) bs) none
 
 -- a number: an optional minus (45), then at least one digit
-abbrev pub withoutMinus : Option ℕ → Option ℤ
-withoutMinus (some n) = some (pos n)
-withoutMinus none = none
-
-abbrev pub withMinus : Option ℕ → Option ℤ
-withMinus (some n) = some (negℤ (pos n))
-withMinus none = none
+abbrev pub negative : ℕ → ℤ
+negative n = negℤ (pos n)
 
 abbrev pub someDigits : List ℕ → Option ℕ
 someDigits [] = none
@@ -47,13 +42,12 @@ someDigits (b ∷ bs) = readDigits 0 (b ∷ bs)
 
 unfoldable pub readNumber : List ℕ → Option ℤ
 readNumber [] = none
-readNumber (b ∷ bs) = cond (eqb b 45) (withMinus (someDigits bs)) (withoutMinus (someDigits (b ∷ bs)))
+readNumber (b ∷ bs) = cond (eqb b 45) (Option·map negative (someDigits bs)) (Option·map pos (someDigits (b ∷ bs)))
 
 -- fields that are all numbers
 abbrev pub numberThen : Option ℤ → Option (List ℤ) → Option (List ℤ)
-numberThen (some z) (some zs) = some (z ∷ zs)
-numberThen (some z) none = none
-numberThen none zs = none
+numberThen (some z) numbers = Option·map (λ (zs : List ℤ). z ∷ zs) numbers
+numberThen none numbers = none
 
 unfoldable pub readNumbers : List (List ℕ) → Option (List ℤ)
 readNumbers [] = some []
