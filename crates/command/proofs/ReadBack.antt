@@ -1,6 +1,5 @@
--- What is printed reads back as what was answered. A number is its digits and at most a minus, so the spaces and line feeds that are printed between numbers
--- are the only ones, and a reader that splits there has each letter and each number; each line ends with its line feed, so texts that stand one behind the
--- other are read one behind the other.
+-- What is printed reads back as what was answered: a number is digits and at most a minus, so a reader that splits at line feeds and spaces finds each letter
+-- and each number again; and each text ends with a line feed, so texts one behind the other are read one behind the other.
 -- Assumes nothing.
 use mathlib.Core.Path.{_≡_, refl, sym, ap, _∙_, subst}
 use mathlib.Core.Bool.{Bool, true, false, cond}
@@ -46,22 +45,22 @@ use Rattle.command.proofs.PrintedNumbers.{shortest, decimal-value, sign
 use Rattle.command.proofs.RowLines.{rowLine, row-spelled, row-fields, row-above, shown-counts}
 
 -- digits say the sum of their powers of ten
-digits-behind : (ds : List ℕ) (v : ℕ) → AllDigits ds → readDigits v ds ≡ some (v * 10 ^ length ds + valueOf ds)
+digits-from : (ds : List ℕ) (v : ℕ) → AllDigits ds → readDigits v ds ≡ some (v * 10 ^ length ds + valueOf ds)
 unfolding readDigits valueOf
-digits-behind [] v p = ap some (omega arith)
-digits-behind (d ∷ ds) v p =
-    rw (le-leb 48 d (p .0), le-leb d 57 (p .1)) (digits-behind ds (v * 10 + (d - 48)) (p .2) ∙ ap some (value-more v (d - 48) (length ds) (valueOf ds)))
+digits-from [] v p = ap some (omega arith)
+digits-from (d ∷ ds) v p =
+    rw (le-leb 48 d (p .0), le-leb d 57 (p .1)) (digits-from ds (v * 10 + (d - 48)) (p .2) ∙ ap some (value-more v (d - 48) (length ds) (valueOf ds)))
 
-digits-read : (ds : List ℕ) → AllDigits ds → readDigits 0 ds ≡ some (valueOf ds)
-digits-read ds p = digits-behind ds 0 p ∙ ap some (omega arith)
+digits-say : (ds : List ℕ) → AllDigits ds → readDigits 0 ds ≡ some (valueOf ds)
+digits-say ds p = digits-from ds 0 p ∙ ap some (omega arith)
 
 -- a number's text reads as the number
 spelled-read : {f : List ℕ} {z : ℤ} → Spells f z → readNumber f ≡ some z
 unfolding readNumber
 spelled-read (plain {ds = []} s) = absurd (omega (arith, s .some))
-spelled-read (plain {ds = d ∷ ds} s) = rw (ne-eqb d 45 (λ e. omega (arith, s .all .0, e))) (ap (Option·map pos) (digits-read (d ∷ ds) (s .all)))
+spelled-read (plain {ds = d ∷ ds} s) = rw (ne-eqb d 45 (λ e. omega (arith, s .all .0, e))) (ap (Option·map pos) (digits-say (d ∷ ds) (s .all)))
 spelled-read (minus {ds = []} s h) = absurd (omega (arith, s .some))
-spelled-read (minus {ds = d ∷ ds} s h) = ap (Option·map negative) (digits-read (d ∷ ds) (s .all))
+spelled-read (minus {ds = d ∷ ds} s h) = ap (Option·map negative) (digits-say (d ∷ ds) (s .all))
 
 numbers-read : {fs : List (List ℕ)} {zs : List ℤ} → SpellsAll fs zs → readNumbers fs ≡ some zs
 unfolding readNumbers

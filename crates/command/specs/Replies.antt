@@ -24,19 +24,19 @@ use Rattle.command.specs.ReadAnswers.{Reply}
 abbrev pub refusalReply : Refusal → Reply
 refusalReply why = Reply.refused (pos (numberOf why))
 
--- a load and an update
+-- `L` and `U`
 abbrev pub answerReply : Answer → RowRecord → Reply
 answerReply Answer.Fits r = Reply.fits
 answerReply Answer.Overloaded r = Reply.overloaded (r .start) (r .end) (pos (r .height))
 answerReply (Answer.Refused why) r = refusalReply why
 
--- the first fit
+-- `P`
 abbrev pub fitReply : FirstFit → Reply
 fitReply (FirstFit.Start z) = Reply.startsAt z
 fitReply FirstFit.Nowhere = Reply.nowhere
 fitReply (FirstFit.Refused why) = refusalReply why
 
--- the rows in order, each with its ids in list order, then how many there are
+-- `T`: the rows in order, each with its ids in list order, then how many there are
 abbrev pub rowReply : RowRecord → Reply
 rowReply r = Reply.row (r .start) (r .end) (pos (r .height)) (map pos (idsOf r))
 
@@ -44,7 +44,7 @@ abbrev pub rowReplies : Checked → List RowRecord → List Reply
 rowReplies Checked.Accepted rows = map rowReply rows ++ Reply.count (pos (length rows)) ∷ []
 rowReplies (Checked.Refused why) rows = refusalReply why ∷ []
 
--- a command: `J` is answered only where 32 jobs are kept already
+-- a command; `J` is answered only where 32 jobs are kept already, and a line that cannot be read with 11
 unfoldable pub repliesTo : Session → Command → List Reply
 repliesTo s (Command.Keep job) = cond (ltb (s .jobs .count) 32) [] (refusalReply Refusal.TooManyJobs ∷ [])
 repliesTo s (Command.Load capacity) = answerReply (loaded (s .plan) (s .jobs) capacity .answer) (loaded (s .plan) (s .jobs) capacity .row) ∷ []
