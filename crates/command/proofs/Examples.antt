@@ -1,4 +1,4 @@
--- Lines and texts of document 01, by computation.
+-- Lines and texts of document 01, typed, printed and read, by computation.
 -- Assumes nothing.
 use mathlib.Core.Path.{_≡_, refl}
 use mathlib.Core.List.{[], _∷_, map, flatMap}
@@ -12,6 +12,8 @@ use Rattle.command.specs.Decimal.{digitsIn, decimal, signedText}
 use Rattle.command.specs.Numbers.{isDigit, magnitudeFrom, signedOf, numberOf}
 use Rattle.command.specs.Grammar.{fieldsOf, valuesOf, numbersTaken, commandWith, byLetter, commandOf}
 use Rattle.command.specs.Text.{refusalText, startText, fitText, rowText, countText, overloadText}
+use Rattle.command.specs.Listing.{shown}
+use Rattle.command.specs.ReadAnswers.{Reply, splitAt, readDigits, readNumber, readNumbers, readLine, readPieces, readAnswers}
 
 -- `J 0 0 4 2`, `L 5`, `U 2 -9 11`, `P -0`, `T`
 job : commandOf (74 ∷ 32 ∷ 48 ∷ 32 ∷ 48 ∷ 32 ∷ 52 ∷ 32 ∷ 50 ∷ []) ≡ Keep (record { earliest = pos 0; latest = pos 0; duration = pos 4; usage = pos 2 })
@@ -100,3 +102,38 @@ refusals : map refusalText (
     ∷ (82 ∷ 32 ∷ 54 ∷ 10 ∷ []) ∷ (82 ∷ 32 ∷ 55 ∷ 10 ∷ []) ∷ (82 ∷ 32 ∷ 56 ∷ 10 ∷ []) ∷ (82 ∷ 32 ∷ 57 ∷ 10 ∷ []) ∷ (82 ∷ 32 ∷ 49 ∷ 49 ∷ 10 ∷ []) ∷ []
 unfolding refusalText countText decimal digitsIn
 refusals = refl
+
+-- the output of document 01's listing, as it reads
+listing-read : readAnswers shown
+    ≡ Reply.fits
+    ∷ Reply.row (pos 0) (pos 1) (pos 2) (pos 1 ∷ [])
+    ∷ Reply.row (pos 2) (pos 3) (pos 5) (pos 1 ∷ pos 0 ∷ [])
+    ∷ Reply.row (pos 4) (pos 5) (pos 3) (pos 0 ∷ [])
+    ∷ Reply.count (pos 3)
+    ∷ Reply.fits
+    ∷ Reply.fits
+    ∷ Reply.overloaded (pos 3) (pos 3) (pos 6)
+    ∷ Reply.fits
+    ∷ Reply.row (pos 2) (pos 2) (pos 3) (pos 0 ∷ [])
+    ∷ Reply.row (pos 3) (pos 3) (pos 5) (pos 1 ∷ pos 0 ∷ [])
+    ∷ Reply.row (pos 4) (pos 5) (pos 5) (pos 0 ∷ pos 1 ∷ [])
+    ∷ Reply.row (pos 6) (pos 6) (pos 3) (pos 1 ∷ pos 2 ∷ [])
+    ∷ Reply.row (pos 7) (pos 8) (pos 1) (pos 2 ∷ [])
+    ∷ Reply.count (pos 5)
+    ∷ []
+unfolding readAnswers splitAt readPieces readLine readNumbers readNumber readDigits
+listing-read = refl
+
+-- `S -10` and `N`; then what is no answer: an empty line, `S  4`, ` F`, `S -`, `O 3 3`, and `F` without its line feed
+start-read : readAnswers (83 ∷ 32 ∷ 45 ∷ 49 ∷ 48 ∷ 10 ∷ 78 ∷ 10 ∷ []) ≡ Reply.startsAt (negsuc 9) ∷ Reply.nowhere ∷ []
+unfolding readAnswers splitAt readPieces readLine readNumbers readNumber readDigits
+start-read = refl
+
+not-read : map readLine ([] ∷ (83 ∷ 32 ∷ 32 ∷ 52 ∷ []) ∷ (32 ∷ 70 ∷ []) ∷ (83 ∷ 32 ∷ 45 ∷ []) ∷ (79 ∷ 32 ∷ 51 ∷ 32 ∷ 51 ∷ []) ∷ [])
+    ≡ Reply.garbage ∷ Reply.garbage ∷ Reply.garbage ∷ Reply.garbage ∷ Reply.garbage ∷ []
+unfolding splitAt readLine readNumbers readNumber readDigits
+not-read = refl
+
+feed-missing : readAnswers (70 ∷ 10 ∷ 70 ∷ []) ≡ Reply.fits ∷ Reply.garbage ∷ []
+unfolding readAnswers splitAt readPieces readLine readNumbers readNumber readDigits
+feed-missing = refl

@@ -10,12 +10,15 @@ pub mod CommandOutcomes
 pub mod ServedLines
 pub mod LinesOf
 pub mod Transcript
+pub mod LastFeed
 pub mod SpacesAndFeeds
 pub mod ReadableLines
 pub mod PrintedNumbers
 pub mod PrintedAnswers
 pub mod Calls
+pub mod RowLines
 pub mod TableLines
+pub mod ReadBack
 pub mod Unreadable
 pub mod Unique
 pub mod Listing

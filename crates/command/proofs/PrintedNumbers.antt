@@ -72,18 +72,21 @@ decimal-spelled : (n : ℕ) → Spelled n (decimal n)
 unfolding decimal
 decimal-spelled n = digits-spelled (suc n) n (omega arith)
 
-shortest : (n : ℕ) → Shortest (decimal n)
+pub shortest : (n : ℕ) → Shortest (decimal n)
 shortest zero = let s = decimal-spelled 0 in record { all = s .all; some = s .some; alone = λ e. s .nothing refl }
 shortest (suc n) = let s = decimal-spelled (suc n) in record { all = s .all; some = s .some; alone = λ e. absurd (omega (arith, s .first (omega arith), e)) }
 
+pub decimal-value : (n : ℕ) → valueOf (decimal n) ≡ n
+decimal-value n = decimal-spelled n .value
+
 pub decimal-spells : (n : ℕ) → Spells (decimal n) (pos n)
-decimal-spells n = subst (λ (m : ℕ). Spells (decimal n) (pos m)) (decimal-spelled n .value) (plain (shortest n))
+decimal-spells n = subst (λ (m : ℕ). Spells (decimal n) (pos m)) (decimal-value n) (plain (shortest n))
 
 pub signed-spells : (z : ℤ) → Spells (signedText z) z
 unfolding signedText
 signed-spells (pos n) = decimal-spells n
 signed-spells (negsuc n) =
-    let v = decimal-spelled (suc n) .value in
+    let v = decimal-value (suc n) in
     subst (λ (m : ℕ). Spells (45 ∷ decimal (suc n)) (negℤ (pos m))) v (minus (shortest (suc n)) (omega (arith, v)))
 
 pub ids-spell : (ids : List ℕ) → SpellsAll (map decimal ids) (map pos ids)
@@ -139,7 +142,7 @@ one-field : (letter : ℕ) (a : List ℕ) → (letter ∷ []) ++ spaced a ++ 10 
 unfolding flatMap
 one-field letter a = ap (λ (l : List ℕ). letter ∷ 32 ∷ (l ++ 10 ∷ [])) (sym (append-nil a))
 
-count-printed : (letter n : ℕ) → 32 < letter → OneLine letter (pos n ∷ []) (countText letter n)
+pub count-printed : (letter n : ℕ) → 32 < letter → OneLine letter (pos n ∷ []) (countText letter n)
 unfolding countText
 count-printed letter n dark = one-line letter (countText letter n) dark (more (decimal-spells n) none) (one-field letter (decimal n))
 

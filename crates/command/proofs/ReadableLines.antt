@@ -35,7 +35,7 @@ bad-not : {A : Type 0} {z : ℤ} → Number.Bad ≡ Number.Is z → A
 bad-not e = let clash : _≡_ {A = ℕ} 0 1 = cc in absurd (omega arith)
 
 -- digits that are read behind a value, or a byte among them that is none
-value-more : (v k n w : ℕ) → (v * 10 + k) * 10 ^ n + w ≡ v * 10 ^ suc n + (k * 10 ^ n + w)
+pub value-more : (v k n w : ℕ) → (v * 10 + k) * 10 ^ n + w ≡ v * 10 ^ suc n + (k * 10 ^ n + w)
 value-more v k n w = rw (add-mul (v * 10) k (10 ^ n), mul-assoc v 10 (10 ^ n), pow-succ' 10 n) (add-assoc (v * (10 * 10 ^ n)) (k * 10 ^ n) w)
 
 digits-behind : (ds : List ℕ) (v : ℕ) → AllDigits ds → magnitudeFrom v ds ≡ Magnitude.Is (v * 10 ^ length ds + valueOf ds)
@@ -84,7 +84,7 @@ minus-range : (n : ℕ) (z : ℤ) → within true n ≡ Number.Is z → (n ≤ 2
 minus-range n z e = tested (leb n 2147483648) (λ t. (leb-true n 2147483648 t, is-same (rw t at e))) (λ t. bad-not (rw t at e))
 
 -- a field is read as a number exactly if it is that number's text
-numeral-read : {f : List ℕ} {z : ℤ} → Numeral f z → numberOf f ≡ Number.Is z
+pub numeral-read : {f : List ℕ} {z : ℤ} → Numeral f z → numberOf f ≡ Number.Is z
 unfolding numberOf
 numeral-read (plain {ds = []} g small) = absurd (omega (arith, g .some))
 numeral-read (plain {ds = d ∷ ds} g small) =

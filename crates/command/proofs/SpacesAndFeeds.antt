@@ -35,7 +35,7 @@ field-first [] rest p = refl
 field-first (b ∷ l) rest p = rw (ne-eqb b 32 (λ e. omega (arith, p .0)), field-first l rest (p .1))
 
 -- a line ends at a line feed
-above-feedless : (l : List ℕ) → Above 10 l → NoFeed l
+pub above-feedless : (l : List ℕ) → Above 10 l → NoFeed l
 above-feedless [] p = tt
 above-feedless (b ∷ l) p = ((λ e. omega (arith, p .0, e)), above-feedless l (p .1))
 

@@ -2,25 +2,23 @@
 -- are the only ones, and splitting there gives the numbers back.
 -- Assumes nothing.
 use mathlib.Core.Path.{_≡_, refl, sym, ap, _∙_, subst}
-use mathlib.Core.Bool.{Bool, true, false, cond, true≢false}
+use mathlib.Core.Bool.{false, true≢false}
 use mathlib.Core.Logic.{⊎-elim}
 use mathlib.Core.List.{List, [], _∷_, _++_, map, flatMap, append-nil, append-assoc}
 use Prim.Native.Nat.{ℕ, _+_, _<_}
 use native.Mathlib.Omega.{arith}
 use lib.IntN.{pos}
 use lib.ListN.{length, getD, length-append, length-map, List·getD-append}
-use lib.Seq.{getD-at, take-at}
-use Rattle.time_table.specs.Rows.{rowsOf}
+use lib.Seq.{getD-at}
 use Rattle.sweep.proofs.Placed.{get-map}
 use Rattle.planner.specs.declared.Plan.{Plan}
 use Rattle.planner.specs.declared.RowRecord.{RowRecord}
 use Rattle.planner.specs.declared.Rows.{Rows}
 use Rattle.planner.specs.declared.Checked.{Checked}
-use Rattle.planner.specs.declared.Refusal.the-variants.{Stale}
 use Rattle.planner.specs.Refusals.{numberOf, Verdict, verdict}
-use Rattle.planner.specs.Records.{recordOf, idsOf, noRecord}
+use Rattle.planner.specs.Records.{noRecord}
 use Rattle.planner.specs.Answers.{freshPlan}
-use Rattle.planner.specs.Questions.{rowsWith, rowsShown, shownRows}
+use Rattle.planner.specs.Questions.{rowsShown, shownRows}
 use Rattle.planner.specs.History.{Call, planAfter}
 use Rattle.planner.specs.Stale.{staleAfter}
 use Rattle.planner.proofs.Tests.{by-test}
@@ -29,49 +27,20 @@ use Rattle.planner.proofs.Numbers.{rows-refused-9, rows-accepted-when}
 use Rattle.planner.proofs.Histories.{rows-demanded}
 use Rattle.planner.proofs.HeardStale.{heard-rows-9}
 use Rattle.command.specs.declared.Session.{Session}
-use Rattle.command.specs.Decimal.{digitsIn, decimal, signedText}
+use Rattle.command.specs.Decimal.{digitsIn, decimal}
 use Rattle.command.specs.Grammar.{fieldsOf, valuesOf, numbersTaken, commandWith, byLetter, commandOf}
-use Rattle.command.specs.Text.{spaced, countText, refusalText, idText, idsText, rowText, rowsText, tableBy, tableText}
+use Rattle.command.specs.Text.{spaced, countText, refusalText, rowText, rowsText, tableBy, tableText}
 use Rattle.command.specs.Sessions.{freshSession, outcome, answered}
 use Rattle.command.specs.Lines.{linesAfter, linesOf}
 use Rattle.command.specs.Calls.{sessionAfter, callsOf}
 use Rattle.command.specs.PrintedNumbers.{SpellsAll, none, more, LetterLine, Ended}
 use Rattle.command.specs.TableLines.{rowNumbers, ListsRows, PrintedByT, refused-9, listed}
-use Rattle.command.proofs.SpacesAndFeeds.{Above, above-append, above-less, fields-joined, line-first}
-use Rattle.command.proofs.PrintedNumbers.{decimal-spells, signed-spells, ids-spell, spells-above, all-above, afterSpace, spaces-above, last-byte, letter-line}
+use Rattle.command.proofs.SpacesAndFeeds.{Above, above-less, line-first}
+use Rattle.command.proofs.PrintedNumbers.{decimal-spells, spells-above, last-byte, letter-line}
+use Rattle.command.proofs.RowLines.{rowLine, row-fields, row-spelled, row-above, shown-counts}
 use Rattle.command.proofs.Calls.{plan-after-lines}
 
--- a row's line is its fields, each but the first after a space
-abbrev rowLine : RowRecord → List ℕ
-rowLine r = signedText (r .start) ++ spaced (signedText (r .end)) ++ spaced (decimal (r .height)) ++ idsText (idsOf r)
-
-abbrev behindStart : RowRecord → List (List ℕ)
-behindStart r = signedText (r .end) ∷ decimal (r .height) ∷ map decimal (idsOf r)
-
-ids-behind : (ids : List ℕ) → idsText ids ≡ flatMap afterSpace (map decimal ids)
-unfolding flatMap
-ids-behind [] = refl
-ids-behind (i ∷ ids) = ap (λ (l : List ℕ). idText i ++ l) (ids-behind ids)
-
-row-line : (r : RowRecord) → rowLine r ≡ signedText (r .start) ++ flatMap afterSpace (behindStart r)
-unfolding flatMap
-row-line r = rw (← (ids-behind (idsOf r))) (simp append-assoc)
-
-row-spelled : (r : RowRecord) → SpellsAll (signedText (r .start) ∷ behindStart r) (rowNumbers r)
-row-spelled r = more (signed-spells (r .start)) (more (signed-spells (r .end)) (more (decimal-spells (r .height)) (ids-spell (idsOf r))))
-
-row-fields : (r : RowRecord) → fieldsOf (rowLine r) ≡ signedText (r .start) ∷ behindStart r
-row-fields r =
-    let above = all-above (row-spelled r) in
-    ap fieldsOf (row-line r) ∙ fields-joined (signedText (r .start)) (behindStart r) (above .0) (above .1)
-
-row-above : (r : RowRecord) → Above 10 (rowLine r)
-row-above r =
-    let above = all-above (row-spelled r) in
-    let s = signedText (r .start) in
-    rw (row-line r) (above-append 10 s (flatMap afterSpace (behindStart r)) (above-less s (above .0)) (spaces-above (behindStart r) (above .1)))
-
--- and the last line is `E` and a number
+-- the last line is `E` and a number
 abbrev endLine : ℕ → List ℕ
 endLine n = (69 ∷ []) ++ spaced (decimal n)
 
@@ -123,21 +92,10 @@ module _ (calls : List Call) where
   abbrev shown : Rows
   shown = rowsShown plan
 
-  counts : shown .count ≡ length (shownRows shown)
-  unfolding rowsShown
-  counts = go (plan .live)
-    where
-      table : List RowRecord
-      table = map recordOf (rowsOf (plan .table))
-
-      go : (live : Bool) → (let r = cond live (rowsWith Checked.Accepted table) (rowsWith (Checked.Refused Stale) []) in r .count ≡ length (shownRows r))
-      go true = ap length (sym (take-at table _ (length table) refl))
-      go false = refl
-
   -- a table that is accepted, and one that is refused
   accepted : shown .answer ≡ Checked.Accepted → ListsRows (shownRows shown) (tableText shown)
   unfolding tableText
-  accepted taken = subst (ListsRows (shownRows shown)) (sym (ap (λ (a : Checked). tableBy a shown) taken)) (lists-rows (shownRows shown) _ (omega (arith, counts)))
+  accepted taken = subst (ListsRows (shownRows shown)) (sym (ap (λ (a : Checked). tableBy a shown) taken)) (lists-rows (shownRows shown) _ (omega (arith, shown-counts plan)))
 
   refused : verdict (shown .answer) ≡ Verdict.refused 9 → tableText shown ≡ 82 ∷ 32 ∷ 57 ∷ 10 ∷ []
   unfolding tableText refusalText countText decimal digitsIn

@@ -11,3 +11,5 @@ pub mod PrintedAnswers
 pub mod Calls
 pub mod TableLines
 pub mod Listing
+pub mod ReadAnswers
+pub mod Replies
