@@ -1,0 +1,20 @@
+-- The status is 0 exactly if all input was answered: no other ending has it.
+-- Assumes nothing.
+use mathlib.Core.Path.{_≡_, refl, ap}
+use native.Mathlib.Omega.{arith}
+use Prim.Native.Nat.{ℕ}
+use lib.IntN.{ℤ, pos, natAbs}
+use Rattle.terminal.specs.declared.Ending.{Ending}
+use Rattle.terminal.specs.Endings.{statusOf}
+
+pub answered-0 : statusOf Ending.Over ≡ pos 0
+answered-0 = refl
+
+other : (n : ℕ) → pos n ≡ pos 0 → n ≡ 0
+other n e = ap natAbs e
+
+pub only-answered-0 : (e : Ending) → statusOf e ≡ pos 0 → e ≡ Ending.Over
+only-answered-0 Ending.Open s = absurd (omega (arith, other 1 s))
+only-answered-0 Ending.Over s = refl
+only-answered-0 Ending.Unread s = absurd (omega (arith, other 1 s))
+only-answered-0 Ending.Unwritten s = absurd (omega (arith, other 2 s))
