@@ -2,9 +2,8 @@
 use lib.IntN.{ℤ, pos}
 use Rattle.terminal.specs.declared.Ending.{Ending}
 
--- 0 if all input was answered, 1 where there is more that was not read, 2 where an answer could not be written
+-- 0 if all input was answered, 1 if some of it was not read, 2 if an answer could not be written
 abbrev pub statusOf : Ending → ℤ
-statusOf Ending.Open = pos 1
 statusOf Ending.Over = pos 0
 statusOf Ending.Unread = pos 1
 statusOf Ending.Unwritten = pos 2

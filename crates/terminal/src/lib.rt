@@ -4,27 +4,24 @@ ghost use Prim.Native.Nat.{_≤_, _<_};
 ghost use lib.ListN.{length};
 ghost use Rattle.command.specs.Text.{longest};
 ghost use Rattle.command.specs.Lines.{ReadyState};
-ghost use Rattle.terminal.specs.Endings.{statusOf};
+ghost use Rattle.terminal.specs.Endings.{statusOf, Status};
 use command::lines::State;
 use libc::STDIN_FILENO;
 use libc::STDOUT_FILENO;
 
-// How a run ends: at the end of the input, where a read fails, or where an answer cannot be written. `Open`
-// is a run that goes on.
+// How a run ends: all input was answered, some of it was not read, or an answer could not be written.
 pub enum Ending {
-    Open,
     Over,
     Unread,
     Unwritten,
 }
 
 impl Ending {
-    // The exit status of a program that ends so: 0 exactly if all input was answered.
+    // The exit status of a program that ends so.
     pub fn status(self) -> i32
         ensures { λ r. ⌜ r ≡ statusOf self ⌝ }
     {
         match self {
-            Ending::Open => 1,
             Ending::Over => 0,
             Ending::Unread => 1,
             Ending::Unwritten => 2,
@@ -32,9 +29,10 @@ impl Ending {
     }
 }
 
-// The state after some bytes, and whether to go on.
+// The state after some bytes, whether to go on, and how the run ends if not.
 struct Reading {
     state: State,
+    more: bool,
     ending: Ending,
 }
 
@@ -56,13 +54,15 @@ fn serve_all(from: State, chunk: &[u8], out: &mut [u8]) -> Reading
         if !written {
             return Reading {
                 state,
+                more: false,
                 ending: Ending::Unwritten,
             };
         }
     }
     Reading {
         state,
-        ending: Ending::Open,
+        more: true,
+        ending: Ending::Unread,
     }
 }
 
@@ -75,17 +75,18 @@ fn serve_last(state: State, out: &mut [u8]) -> Reading
     if !state.begun() {
         return Reading {
             state,
+            more: false,
             ending: Ending::Over,
         };
     }
     let last = serve_all(state, b"\n", out);
-    let ending = last.ending;
-    if let Ending::Unwritten = ending {
+    if !last.more {
         return last;
     }
     let after = last.state;
     Reading {
         state: after,
+        more: false,
         ending: Ending::Over,
     }
 }
@@ -102,6 +103,7 @@ fn read_some(state: State, out: &mut [u8]) -> Reading
     if got < 0 {
         return Reading {
             state,
+            more: false,
             ending: Ending::Unread,
         };
     }
@@ -112,36 +114,36 @@ fn read_some(state: State, out: &mut [u8]) -> Reading
     serve_all(state, &buffer[..n], out)
 }
 
-// How many turns are left after one: none where the run has ended.
-fn turns_left(turns: u64, ending: Ending) -> u64
+// How many turns are left after one: none where there is no more to do.
+fn turns_left(turns: u64, more: bool) -> u64
     requires { ⌜ 0 < turns ⌝ }
     ensures { λ r. ⌜ r < turns ⌝ }
 {
-    if let Ending::Open = ending {
-        return turns - 1;
-    }
-    0
+    if more { turns - 1 } else { 0 }
 }
 
 // Reads and answers until the run ends, and says how. A proved loop has to end, and nothing says that the
 // input does. So the loop counts its turns down, from a number that no run uses up.
 fn run(out: &mut [u8]) -> Ending
     requires { ⌜ longest ≤ length (now out) ⌝ }
+    ensures { λ r. ⌜ Status (statusOf r) ⌝ }
 {
     let mut state = State::new();
-    let mut ending = Ending::Open;
+    let mut ending = Ending::Unread;
     let mut turns = u64::MAX;
     while turns > 0 {
         let reading = read_some(state, out);
         state = reading.state;
         ending = reading.ending;
-        turns = turns_left(turns, ending);
+        turns = turns_left(turns, reading.more);
     }
     ending
 }
 
 // Answers standard input on standard output, and says how that ended.
-pub fn answer_input() -> Ending {
+pub fn answer_input() -> Ending
+    ensures { λ r. ⌜ Status (statusOf r) ⌝ }
+{
     let mut out = io::large_buffer();
     run(&mut out)
 }

@@ -3,17 +3,10 @@
 use mathlib.Core.Path.{sym, _∙_, subst}
 use mir.Syntax.{w32}
 use mir.Facts.{toZ-ofZ}
-use Rattle.terminal.specs.declared.Ending.{Ending}
-use Rattle.terminal.specs.Endings.{statusOf, Status, answered, unread, unwritten}
+use Rattle.terminal.specs.Endings.{Status}
 use borrow.Author.Needs.{needs}
 use Rattle.pass_planner.proofs.pass_planner.Statement.{statement}
 use Rattle.pass_planner.proofs.pass_planner.Tie as tie
-
-each : (e : Ending) → Status (statusOf e)
-each Ending.Open = unread
-each Ending.Over = answered
-each Ending.Unread = unread
-each Ending.Unwritten = unwritten
 
 answer-input-requires : tie.Need-answer-input-requires
 answer-input-requires c κs = search needs
@@ -25,7 +18,7 @@ status-requires : tie.Need-status-requires
 status-requires c κs = search needs
 
 returns : tie.Need-returns
-returns c = subst Status (sym (toZ-ofZ {w = w32} {z = c .status .result} (record { sfits = c .status .ok }) ∙ c .status .ensures)) (each (c .before .before .answer-input .result))
+returns c = subst Status (sym (toZ-ofZ {w = w32} {z = c .status .result} (record { sfits = c .status .ok }) ∙ c .status .ensures)) (c .before .before .answer-input .ensures)
 
 pub pass-planner-spec : {M : Type 1} → statement M
 pass-planner-spec =

@@ -14,9 +14,6 @@ enum-told-2 c = search needs
 enum-told-3 : tie.Need-enum-told-3
 enum-told-3 c = search needs
 
-enum-told-4 : tie.Need-enum-told-4
-enum-told-4 c = search needs
-
 returns : tie.Need-returns
 returns c = rw (c .enum-told .given .1) refl
 
@@ -26,10 +23,7 @@ returns-2 c = rw (c .enum-told2 .given .1) refl
 returns-3 : tie.Need-returns-3
 returns-3 c = rw (c .enum-told3 .given .1) refl
 
-returns-4 : tie.Need-returns-4
-returns-4 c = rw (c .enum-told4 .given .1) refl
-
 pub status-spec : {M : Type 1} → statement M
 status-spec =
     tie.close
-    (tie.spec enum-told enum-told-2 enum-told-3 enum-told-4 returns returns-2 returns-3 returns-4)
+    (tie.spec enum-told enum-told-2 enum-told-3 returns returns-2 returns-3)
