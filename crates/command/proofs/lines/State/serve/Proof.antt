@@ -11,6 +11,7 @@ use borrow.Author.Tests.{leb-true, leb-false}
 use lib.IntN.{ℤ}
 use lib.ListN.{length, take, drop}
 use Rattle.time_table.proofs.Held.{held-length}
+use Rattle.planner.specs.declared.Jobs.{Jobs}
 use Rattle.planner.specs.declared.Updated.{Updated}
 use Rattle.planner.specs.Sound.{Sound}
 use Rattle.planner.specs.Loads.{loaded}
@@ -31,18 +32,13 @@ use native.Mathlib.Omega.{arith}
 use Rattle.command.proofs.lines.State.serve.Statement.{statement}
 use Rattle.command.proofs.lines.State.serve.Tie as tie
 
+-- what all the bytes lead to, where the plan is that of what was answered last
+abbrev from-start : List ℕ → ℕ → List ℕ → Updated → Jobs → Reader → Gathered
+from-start chunk from out last jobs reader = served (length out) (record { session = record { plan = last .plan; jobs = jobs }; reader = reader }) from (drop from chunk)
+
 abbrev Inv-loop : tie.InvT-loop
 Inv-loop chunk from out₀ last₀ jobs₀ line₀ len₀ at₀ used₀ out last jobs line len at used =
-    Serving
-    (served (length out₀) (record { session = record { plan = last₀ .plan; jobs = jobs₀ }; reader = record { line = line₀; len = len₀ } }) from (drop from chunk))
-    chunk
-    out₀
-    (record { plan = last .plan; jobs = jobs })
-    line
-    len
-    at
-    used
-    out
+    Serving (from-start chunk from out₀ last₀ jobs₀ (record { line = line₀; len = len₀ })) chunk out₀ (record { plan = last .plan; jobs = jobs }) line len at used out
 
 abbrev μ-loop : tie.MeasureT-loop
 μ-loop chunk from out₀ last₀ jobs₀ line₀ len₀ at₀ used₀ out last jobs line len at used = length chunk - at
@@ -52,19 +48,16 @@ module _ (c : tie.Then1 Inv-loop μ-loop) where
   abbrev kept : tie.At-loop Inv-loop μ-loop
   kept = c .before .before
 
-  abbrev all : Gathered
-  all =
-      let a = kept .before .before .before .before .before .before in
-      served
-      (length (a .args .out .now))
-      (record { session = record { plan = kept .before .before .before .unanswered .result .plan; jobs = a .args .self .session .jobs }; reader = a .args .self .reader })
-      (a .args .from)
-      (drop (a .args .from) (a .args .chunk .now))
+  abbrev start : tie.Start Inv-loop μ-loop
+  start = kept .before .before .before .before .before .before
 
-  same-room : length (kept .loop .out) ≡ length (kept .before .before .before .before .before .before .args .out .now)
+  abbrev all : Gathered
+  all = from-start (start .args .chunk .now) (start .args .from) (start .args .out .now) (kept .before .before .before .unanswered .result) (start .args .self .session .jobs) (start .args .self .reader)
+
+  same-room : length (kept .loop .out) ≡ length (start .args .out .now)
   same-room = written-length (kept .loop .inv .wrote)
 
-  free : kept .loop .used + longest ≤ length (kept .before .before .before .before .before .before .args .out .now)
+  free : kept .loop .used + longest ≤ length (start .args .out .now)
   free = omega (arith, leb-true (kept .loop .used + longest) _ (c .if1 .taken), same-room)
 
 -- the line that the byte ends, and what is kept once it is answered
@@ -82,16 +75,7 @@ module _ (c : tie.After-command-of Inv-loop μ-loop) where
       → answered session line ≡ record { session = s'; text = t }
       → Written (kept turn .loop .out) (kept turn .loop .used) t after next
       → Ready s'
-      → Serving
-      (all turn)
-      (kept turn .before .before .before .before .before .before .args .chunk .now)
-      (kept turn .before .before .before .before .before .before .args .out .now)
-      s'
-      (readerOf [] .line)
-      0
-      (kept turn .loop .at + 1)
-      next
-      after
+      → Serving (all turn) (start turn .args .chunk .now) (start turn .args .out .now) s' (readerOf [] .line) 0 (kept turn .loop .at + 1) next after
   next-line = serving-line (kept turn .loop .inv) (turn .before .loop-test .taken) (free turn) (c .before .before .if2 .left)
 
 unanswered-requires : tie.Need-unanswered-requires Inv-loop μ-loop
@@ -104,10 +88,7 @@ loop-holds c =
     record {
       text = [];
       wrote = written-none (a .args .out .now) 0 (omega arith);
-      leads =
-          ap
-          (λ (r : Reader). served (length (a .args .out .now)) (record { session = record { plan = u .unanswered .result .plan; jobs = a .args .self .session .jobs }; reader = r }) (a .args .from) (drop (a .args .from) (a .args .chunk .now)))
-          (reader-is (a .pre .0 .reader));
+      leads = ap (from-start (a .args .chunk .now) (a .args .from) (a .args .out .now) (u .unanswered .result) (a .args .self .session .jobs)) (reader-is (a .pre .0 .reader));
       ready =
           record {
             plan = subst (λ (x : Updated). Sound (x .plan)) (sym (u .unanswered .ensures)) (a .pre .0 .session .plan);
@@ -245,17 +226,14 @@ returns c =
     let v = l .loop .inv in
     let u = l .before .before .before in
     let a = u .before .before .before in
-    let from-start =
-    ap
-    (λ (x : Updated).
-    served (length (a .args .out .now)) (record { session = record { plan = x .plan; jobs = a .args .self .session .jobs }; reader = a .args .self .reader }) (a .args .from) (drop (a .args .from) (a .args .chunk .now)))
-    (sym (u .unanswered .ensures)) in
+    let same =
+    ap (λ (x : Updated). from-start (a .args .chunk .now) (a .args .from) (a .args .out .now) x (a .args .self .session .jobs) (a .args .self .reader)) (sym (u .unanswered .ensures)) in
     let over =
     ⊎-elim
     (λ w. serving-full v (omega (arith, leb-false (l .loop .used + longest) _ (w .1 .left), written-length (v .wrote))))
     (λ w. serving-over v (w .left))
     (c .before .loop-test .came) in
-    (serving-done v from-start over, record { session = v .ready; reader = v .held })
+    (serving-done v same over, record { session = v .ready; reader = v .held })
 
 pub serve-spec : {M : Type 1} → statement M
 serve-spec =
