@@ -28,7 +28,7 @@ use Rattle.command.specs.declared.Command.{Command}
 use Rattle.command.specs.declared.Command.the-variants.{Keep, Load, Update, Fit, Rows, Unreadable}
 use Rattle.command.specs.Grammar.{commandOf}
 use Rattle.command.specs.Text.{refusalText, answerText}
-use Rattle.command.specs.Sessions.{Outcome, Ready, refused, outcome, answered, moreKept, told}
+use Rattle.command.specs.Sessions.{Outcome, refused, outcome, answered, moreKept, told}
 use Rattle.command.proofs.Command.{the-type}
 
 -- the outcome of a command whose plan goes with the planner's answer

@@ -3,7 +3,7 @@
 use mathlib.Core.Path.{_≡_, refl, ap}
 use native.Mathlib.Omega.{arith}
 use Prim.Native.Nat.{ℕ}
-use lib.IntN.{ℤ, pos, natAbs}
+use lib.IntN.{pos, natAbs}
 use Rattle.terminal.specs.declared.Ending.{Ending}
 use Rattle.terminal.specs.Endings.{statusOf, Status, answered, unread, unwritten}
 

@@ -1,6 +1,5 @@
 -- `keep` meets its contract: where there is room the job is kept, and else the jobs stay.
 -- Assumes nothing.
-use mathlib.Core.Path.{sym}
 use borrow.Author.Tests.{lt-ltb, le-ltb}
 use borrow.Author.Needs.{needs}
 use Rattle.command.proofs.sessions.keep.Statement.{statement}
