@@ -1,4 +1,4 @@
-"""Races a program with the oracle on whole inputs: race.py PROGRAM
+"""Races a program with the oracle on whole inputs: race.py PROGRAM RUNS
 
 Both get the same bytes through a pipe, and have to print the same. The inputs are left in target/bench/inputs.
 Prints a table in Markdown, and the stack that the program needs. bench/program.sh builds both and calls this.
@@ -15,7 +15,6 @@ ROOT = pathlib.Path(__file__).resolve().parent.parent
 ORACLE = ROOT / 'oracle/target/release/oracle'
 INPUTS = ROOT / 'target/bench/inputs'
 SAMPLE = ROOT / 'crates/sample'
-RUNS = 5
 STEP = 20
 CAPACITY = 13
 STACK_STEP = 4
@@ -112,10 +111,13 @@ def seconds(program, data):
     return time.monotonic() - began
 
 
-def race(ours, rust, data):
-    """The median seconds of each, the two taking turns."""
-    turns = [(seconds(ours, data), seconds(rust, data)) for _ in range(RUNS)]
-    return [statistics.median(side) for side in zip(*turns)]
+def race(ours, rust, data, runs):
+    """A line of the table without its start, the two taking turns."""
+    turns = [(seconds(ours, data), seconds(rust, data)) for _ in range(runs)]
+    our_time, rust_time = [statistics.median(side) for side in zip(*turns)]
+    ratios = [first / second for first, second in turns]
+    spread = f'{min(ratios):.2f} to {max(ratios):.2f}'
+    return f'{our_time:.3f} | {rust_time:.3f} | {our_time / rust_time:.2f} | {spread} |'
 
 
 def answers_sample(program, stack):
@@ -143,10 +145,10 @@ def least_stack(program):
     return enough
 
 
-def main(program):
+def main(program, runs):
     """Races on all inputs."""
     INPUTS.mkdir(parents=True, exist_ok=True)
-    print('| input | ours, s | Rust, s | ratio |\n|---|---|---|---|')
+    print('| input | ours, s | Rust, s | ratio | ratios of the turns |\n|---|---|---|---|---|')
     for name, about, lines, switches in inputs():
         data = b''.join(lines)
         path = INPUTS / f'{name}.txt'
@@ -154,11 +156,10 @@ def main(program):
         rust = [ORACLE, *switches]
         if printed([program], data) != printed(rust, data):
             sys.exit(f'race: the two print different answers to {path}')
-        ours, theirs = race([program], rust, data)
-        print(f'| {about} | {ours:.3f} | {theirs:.3f} | {ours / theirs:.2f} |', flush=True)
+        print(f'| {about} | {race([program], rust, data, runs)}', flush=True)
     stack = least_stack(program)
     print(f'\nThe program answers the sample with a stack of {stack} KB, and not with {stack - STACK_STEP}.')
 
 
 if __name__ == '__main__':
-    main(sys.argv[1]) if len(sys.argv) == 2 else sys.exit(__doc__)
+    main(sys.argv[1], int(sys.argv[2])) if len(sys.argv) == 3 else sys.exit(__doc__)
