@@ -72,6 +72,11 @@ def inputs():
     unknown = [line('U', plan.unknown, 5, 5)]
     yield 'unknown', f'a million `U` of an unknown id; {size}', table + times(million, unknown), []
 
+    apart = [line('J', place * 10, place * 10 + 2, 9, 1 + place % 3) for place in range(20)] + [line('L', 1000)]
+    turns = [line('U', turn % 20, turn * 7 % 300, turn * 7 % 300 + 3) for turn in range(300)]
+    moved = f'a million `U`, each of another task, mostly from gap to gap; 20 jobs, {rows(apart)}'
+    yield 'gaps', moved, apart + times(million, turns), []
+
     plan = Plan(32)
     places = [plan.put_short(stair * 7 % plan.stairs) for stair in range(plan.stairs)]
     table = plan.load + places

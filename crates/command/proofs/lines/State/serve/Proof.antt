@@ -71,12 +71,13 @@ module _ (c : tie.After-command-of Inv-loop μ-loop) where
   abbrev session : Session
   session = record { plan = kept turn .loop .last .plan; jobs = kept turn .loop .jobs }
 
-  next-line : {s' : Session} {t after : List ℕ} {next : ℕ}
+  next-line : {s' : Session} {t after : List ℕ} {next at : ℕ}
       → answered session line ≡ record { session = s'; text = t }
-      → Written (kept turn .loop .out) (kept turn .loop .used) t after next
+      → at ≡ kept turn .loop .used
+      → Written (kept turn .loop .out) at t after next
       → Ready s'
       → Serving (all turn) (start turn .args .chunk .now) (start turn .args .out .now) s' (readerOf [] .line) 0 (kept turn .loop .at + 1) next after
-  next-line = serving-line (kept turn .loop .inv) (turn .before .loop-test .taken) (free turn) (c .before .before .if2 .left)
+  next-line is behind wrote = serving-line (kept turn .loop .inv) (turn .before .loop-test .taken) (free turn) (c .before .before .if2 .left) is (rw behind at wrote)
 
 unanswered-requires : tie.Need-unanswered-requires Inv-loop μ-loop
 unanswered-requires c κs = search needs
@@ -153,7 +154,7 @@ loop-again-2 c =
     let z = m .command .given .0 .0 in
     let led : l .load .result ≡ withoutPlaces (loaded (s .plan) (s .jobs) z) =
     l .load .ensures .0 ∙ ap (λ (x : ℤ). withoutPlaces (loaded (s .plan) (s .jobs) x)) (toZ-ofZ {w = w32} {z = z} (record { sfits = l .before .known-told .given .0 .1 })) in
-    next-line k (load-answered s (line k) (k .command-of .ensures) (m .command .given .1) led (e .empty .ensures)) (p .put-answer .ensures)
+    next-line k (load-answered s (line k) (k .command-of .ensures) (m .command .given .1) led (e .empty .ensures)) (omega arith) (p .put-answer .ensures)
     (record { plan = l .load .ensures .1; jobs = rw (e .empty .ensures) no-jobs-held })
 
 enum-known-command-2 : tie.Need-enum-known-command-2 Inv-loop μ-loop
@@ -184,7 +185,7 @@ loop-again-3 c =
     (toZ-ofZ {w = w32} {z = z .0} (record { sfits = f .0 .1 }) i)
     (toZ-ofZ {w = w32} {z = z .1 .0} (record { sfits = f .1 .0 .1 }) i)
     (toZ-ofZ {w = w32} {z = z .1 .1 .0} (record { sfits = f .1 .1 .0 .1 }) i)) in
-    next-line k (update-answered s (line k) (k .command-of .ensures) (m .command2 .given .1) led) (p .put-answer2 .ensures)
+    next-line k (update-answered s (line k) (k .command-of .ensures) (m .command2 .given .1) led) (omega arith) (p .put-answer2 .ensures)
     (record { plan = u .update .ensures .1; jobs = kept (turn k) .loop .inv .ready .jobs })
 
 tell-requires : tie.Need-tell-requires Inv-loop μ-loop
@@ -205,7 +206,7 @@ loop-again-4 c =
     let t = m .before .before .before .before in
     let k = t .before .before .before in
     let s = session k in
-    next-line k (keep-answered s (line k) (k .command-of .ensures) (m .command3 .given .1) (c .keep .ensures)) (t .tell .ensures)
+    next-line k (keep-answered s (line k) (k .command-of .ensures) (m .command3 .given .1) (c .keep .ensures)) (omega arith) (t .tell .ensures)
     (record { plan = kept (turn k) .loop .inv .ready .plan; jobs = rw (c .keep .ensures) (more-kept-held (s .jobs) _ (kept (turn k) .loop .inv .ready .jobs)) })
 
 loop-less-5 : tie.Need-loop-less-5 Inv-loop μ-loop
@@ -215,7 +216,7 @@ loop-again-5 : tie.Need-loop-again-5 Inv-loop μ-loop
 loop-again-5 c =
     let t = c .before .before .before in
     let k = t .before .before .before in
-    next-line k (other-answered (session k) (line k) (k .command-of .ensures) (t .before .before .match .keys3) (c .match2 .keys2)) (t .tell .ensures) (kept (turn k) .loop .inv .ready)
+    next-line k (other-answered (session k) (line k) (k .command-of .ensures) (t .before .before .match .keys3) (c .match2 .keys2)) (omega arith) (t .tell .ensures) (kept (turn k) .loop .inv .ready)
 
 same-length : tie.Need-same-length Inv-loop μ-loop
 same-length c = written-length (c .before .before .loop .inv .wrote)
