@@ -1,4 +1,4 @@
-// Lines from bytes that arrive in pieces.
+// Lines from bytes that arrive in pieces, and their answers.
 ghost use mathlib.Core.Path.{_≡_};
 ghost use mathlib.Core.List.{[]};
 ghost use Prim.Native.Nat.{_≤_};

@@ -13,12 +13,13 @@ ghost use Rattle.command.specs.Written.{Room, Written};
 use planner::Answer;
 use planner::Checked;
 use planner::FirstFit;
+use planner::Plan;
 use planner::Refusal;
 use planner::RowRecord;
 use planner::Rows;
 
-// The bytes that an answer takes at most: 128 rows of 400 bytes, and the line behind them.
-pub const LONGEST: usize = 51300;
+// The bytes that an answer takes at most: all rows, of 400 bytes each, and the line behind them.
+pub(crate) const LONGEST: usize = Plan::ROWS * 400 + 100;
 
 // One byte.
 pub(crate) fn put_byte(out: &mut [u8], at: usize, byte: u8) -> usize
