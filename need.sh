@@ -5,6 +5,6 @@ need() {
         tool=${tool%% *}
         command -v "$tool" >/dev/null 2>&1 && continue
         echo "$(basename "$0"): '$tool' is missing; README.md, \"What it takes\", says where it comes from" >&2
-        exit 2
+        exit 3
     done
 }

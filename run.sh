@@ -7,11 +7,11 @@
 set -eu
 if [ $# -gt 1 ]; then
     echo 'run.sh: it takes one file at most: run.sh [FILE]' >&2
-    exit 2
+    exit 3
 elif [ $# = 1 ]; then
     if [ -d "$1" ] || ! [ -r "$1" ]; then
         echo "run.sh: the file '$1' cannot be read" >&2
-        exit 2
+        exit 3
     fi
     exec <"$1"
 fi
@@ -19,12 +19,17 @@ cd "$(dirname "$0")"
 . ./need.sh
 need rt
 program=target/bin/pass_planner
+proof=target/stamp/pass_planner # rt writes it anew when a file, a crate below or the kit is another
 if ! [ -x "$program" ] || [ -n "$(find crates crates.txt -newer "$program")" ]; then
     echo 'run.sh: proving and building the program, which can take some minutes' >&2
-    if ! said=$(./build.sh </dev/null 2>&1); then
-        printf '%s\n' "$said" >&2
-        exit 1
-    fi
+fi
+fail() {
+    printf '%s\n' "$1" >&2
+    exit 3
+}
+said=$(rt check pass_planner </dev/null 2>&1) || fail "$said"
+if ! [ -x "$program" ] || [ -n "$(find "$proof" build.sh -newer "$program")" ]; then
+    said=$(./build.sh </dev/null 2>&1) || fail "$said"
 fi
 set --
 if [ "$(uname -m)" != x86_64 ]; then

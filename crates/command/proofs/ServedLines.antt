@@ -19,7 +19,7 @@ use Rattle.command.specs.Text.{longest}
 use Rattle.command.specs.Written.{Written}
 use Rattle.command.specs.Sessions.{Ready, answered}
 use Rattle.command.specs.Lines.{readerRoom, bytesOf, readerOf, grown, Gathered, gather, gathered, served, Serves}
-use Rattle.command.proofs.LineBytes.{reader-is}
+use Rattle.command.proofs.LineBytes.{reader-is, reader-bytes}
 use Rattle.command.proofs.WrittenText.{written-length, written-more, written-front}
 
 pub no-line-held : Held readerRoom 0 (readerOf [] .line) 0 []
@@ -70,8 +70,7 @@ module _ {all : Gathered} {chunk out₀ line : List ℕ} {s : Session} {len at u
 
   -- the line is what the reader holds
   bytes-held : bytesOf (readerOf (take len line)) ≡ take len line
-  bytes-held = let h = v .held in held-list {cap = readerRoom} {n = length (take len line)} {blank = 0} {arr = readerOf (take len line) .line} {l = take len line}
-      (record { is = refl; counts = refl; fits = omega (arith, h .counts, h .fits) })
+  bytes-held = let h = v .held in reader-bytes (take len line) (omega (arith, h .counts, h .fits))
 
   module _ (inside : at < length chunk) (free : used + longest ≤ length out₀) where
     abbrev byte : ℕ

@@ -12,7 +12,7 @@ use borrow.Author.Tests.{lt-ltb, le-ltb}
 use lib.Dec.{eqb, leb}
 use lib.ListN.{length, drop, length-append, drop-of-length-le}
 use lib.Seq.{drop-drop}
-use Rattle.time_table.proofs.Held.{held-list, held-self}
+use Rattle.time_table.proofs.Held.{held-self}
 use Rattle.time_table.proofs.Sums.{lt-or-le}
 use Rattle.command.specs.declared.Session.{Session}
 use Rattle.command.specs.declared.lines.State.{State}
@@ -21,7 +21,7 @@ use Rattle.command.specs.Text.{longest}
 use Rattle.command.specs.Sessions.{outcome, answered}
 use Rattle.command.specs.Lines.{linesAfter, lastLine, printed, transcript, bytesOf, readerOf, HeldLine, grown, freshState, lineEnded, lineGrown, byteTaken, Gathered, gather, gathered, served, lastFeed, joined, Prints, some, next, end, readerRoom}
 use Rattle.command.proofs.LineFields.{line-long}
-use Rattle.command.proofs.LineBytes.{grown-more, grown-full}
+use Rattle.command.proofs.LineBytes.{grown-more, grown-full, reader-bytes}
 use Rattle.command.proofs.ServedLines.{gathered-byte, served-further}
 
 -- two lines that are too long are answered alike
@@ -60,10 +60,6 @@ grown-small l b h =
     (λ room. rw (grown-more l b room) (omega (arith, length-append l (b ∷ []))))
     (λ full. rw (grown-full l b full) h)
     (lt-or-le (length l) readerRoom)
-
--- a reader has the bytes that it was made of
-reader-bytes : (l : List ℕ) → length l ≤ readerRoom → bytesOf (readerOf l) ≡ l
-reader-bytes l h = held-list {cap = readerRoom} {n = length l} {blank = 0} {arr = readerOf l .line} {l = l} (record { is = refl; counts = refl; fits = h })
 
 -- what is printed in all from a state on
 abbrev toCome : State → List ℕ → List ℕ

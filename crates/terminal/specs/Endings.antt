@@ -1,4 +1,5 @@
 -- The exit status of a program that ends so.
+use mathlib.Core.Path.{_≡_}
 use lib.IntN.{ℤ, pos}
 use Rattle.terminal.specs.declared.Ending.{Ending}
 
@@ -8,8 +9,7 @@ statusOf Ending.Over = pos 0
 statusOf Ending.Unread = pos 1
 statusOf Ending.Unwritten = pos 2
 
--- and there is no other
-pub data Status : ℤ → Type 0 where
-  answered : Status (pos 0)
-  unread : Status (pos 1)
-  unwritten : Status (pos 2)
+-- a number that is the status of an ending
+pub record Status (z : ℤ) : Type 0 where
+  pub ending : Ending
+  pub is : z ≡ statusOf ending

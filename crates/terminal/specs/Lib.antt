@@ -1,1 +1,2 @@
 pub mod Endings
+pub mod Reads

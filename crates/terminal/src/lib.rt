@@ -1,10 +1,12 @@
 // The loop of the programs: commands from standard input, answers to standard output.
 ghost use mathlib.Core.Path.{_≡_};
+ghost use mathlib.Core.Bool.{false};
 ghost use Prim.Native.Nat.{_≤_, _<_};
 ghost use lib.ListN.{length};
 ghost use Rattle.command.specs.Text.{longest};
 ghost use Rattle.command.specs.Lines.{ReadyState};
 ghost use Rattle.terminal.specs.Endings.{statusOf, Status};
+ghost use Rattle.terminal.specs.Reads.{BytesAnswered, InputEnded, FollowsRead};
 use command::lines::State;
 use libc::STDIN_FILENO;
 use libc::STDOUT_FILENO;
@@ -36,11 +38,23 @@ struct Reading {
     ending: Ending,
 }
 
+// A reading that is the last.
+fn ended(state: State, ending: Ending) -> Reading
+    ensures { λ r. ⌜ r ≡ record { state = state; more = false; ending = ending } ⌝ }
+{
+    Reading {
+        state,
+        more: false,
+        ending,
+    }
+}
+
 // Answers the lines that these bytes end. The answers are gathered and written together, at the latest
 // when the bytes are used up. An answer that cannot be written is the end.
 fn serve_all(from: State, chunk: &[u8], out: &mut [u8]) -> Reading
     requires { ⌜ ReadyState from ⌝ }
     requires { ⌜ longest ≤ length (now out) ⌝ }
+    ensures { λ r. ⌜ BytesAnswered from (now (chunk .entry)) r ⌝ }
     ensures { λ r. ⌜ ReadyState (r .state) ⌝ }
 {
     let mut state = from;
@@ -52,11 +66,7 @@ fn serve_all(from: State, chunk: &[u8], out: &mut [u8]) -> Reading
         state = served.state;
         at = served.next;
         if !written {
-            return Reading {
-                state,
-                more: false,
-                ending: Ending::Unwritten,
-            };
+            return ended(state, Ending::Unwritten);
         }
     }
     Reading {
@@ -70,29 +80,39 @@ fn serve_all(from: State, chunk: &[u8], out: &mut [u8]) -> Reading
 fn serve_last(state: State, out: &mut [u8]) -> Reading
     requires { ⌜ ReadyState state ⌝ }
     requires { ⌜ longest ≤ length (now out) ⌝ }
+    ensures { λ r. ⌜ InputEnded state r ⌝ }
     ensures { λ r. ⌜ ReadyState (r .state) ⌝ }
 {
     if !state.begun() {
-        return Reading {
-            state,
-            more: false,
-            ending: Ending::Over,
-        };
+        return ended(state, Ending::Over);
     }
     let last = serve_all(state, b"\n", out);
     if !last.more {
         return last;
     }
     let after = last.state;
-    Reading {
-        state: after,
-        more: false,
-        ending: Ending::Over,
-    }
+    ended(after, Ending::Over)
 }
 
-// Reads once, and answers the lines that are complete. A read that fails is the end, and a line that was
-// begun is then not answered: nobody said that it was whole.
+// Answers what a read gave: the lines that are complete, or at the end of the input the last one. A read
+// that fails is the end, and a line that was begun is then not answered: nobody said that it was whole.
+fn answer_read(state: State, got: isize, buffer: &[u8], out: &mut [u8]) -> Reading
+    requires { ⌜ ReadyState state ⌝ }
+    requires { ⌜ longest ≤ length (now out) ⌝ }
+    ensures { λ r. ⌜ FollowsRead state got (now (buffer .entry)) r ⌝ }
+    ensures { λ r. ⌜ ReadyState (r .state) ⌝ }
+{
+    if got < 0 {
+        return ended(state, Ending::Unread);
+    }
+    if got == 0 {
+        return serve_last(state, out);
+    }
+    let n = io::count(got, buffer);
+    serve_all(state, &buffer[..n], out)
+}
+
+// Reads once, and answers that.
 fn read_some(state: State, out: &mut [u8]) -> Reading
     requires { ⌜ ReadyState state ⌝ }
     requires { ⌜ longest ≤ length (now out) ⌝ }
@@ -100,18 +120,7 @@ fn read_some(state: State, out: &mut [u8]) -> Reading
 {
     let mut buffer = io::buffer();
     let got = libc::read(STDIN_FILENO, &mut buffer);
-    if got < 0 {
-        return Reading {
-            state,
-            more: false,
-            ending: Ending::Unread,
-        };
-    }
-    if got == 0 {
-        return serve_last(state, out);
-    }
-    let n = io::count(got, &buffer);
-    serve_all(state, &buffer[..n], out)
+    answer_read(state, got, &buffer, out)
 }
 
 // How many turns are left after one: none where there is no more to do.

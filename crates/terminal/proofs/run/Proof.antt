@@ -3,7 +3,6 @@
 use mathlib.Core.Path.{_≡_, refl, _∙_}
 use lib.ListN.{length}
 use Rattle.command.specs.Lines.{ReadyState}
-use Rattle.terminal.proofs.Endings.{each-status}
 use borrow.Author.Needs.{needs}
 use native.Mathlib.Omega.{arith}
 use Rattle.terminal.proofs.run.Statement.{statement}
@@ -41,7 +40,7 @@ same-length : tie.Need-same-length Inv-loop μ-loop
 same-length c = c .before .loop .inv .1
 
 returns : tie.Need-returns Inv-loop μ-loop
-returns c = each-status (c .before .loop .ending)
+returns c = record { ending = c .before .loop .ending; is = refl }
 
 pub run-spec : {M : Type 1} → statement M
 run-spec =
