@@ -131,8 +131,9 @@ unfoldable pub joined : List (List ℕ) → List ℕ
 joined [] = []
 joined (piece ∷ pieces) = piece ++ joined pieces
 
--- what the program prints from a state on, at a place of a piece and with pieces to come, where the lent slice has so much room: what it gathers from
--- the piece, as often as the room asks for, then what it gathers from the next; and at the end of the input from the line feed that is lacking
+-- what the program prints from a state on, at a place of a piece and with pieces to come, where the lent slice has so much room. It gathers from the
+-- piece until that is used up, each time as much as there is room for, and then from the next. At the end of the input it gathers from the line feed
+-- that a begun line lacks
 pub data Prints (room : ℕ) : State → List ℕ → ℕ → List (List ℕ) → List ℕ → Type 0 where
   some : {s : State} {piece : List ℕ} {at : ℕ} {pieces : List (List ℕ)} {text : List ℕ} → at < length piece
       → Prints room (served room s at (drop at piece) .state) piece (served room s at (drop at piece) .next) pieces text

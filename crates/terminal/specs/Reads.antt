@@ -18,7 +18,8 @@ unfoldable pub stateAfter : State → List ℕ → State
 stateAfter s [] = s
 stateAfter s (b ∷ bs) = stateAfter (byteTaken s b .state) bs
 
--- bytes are answered: all of them, and the run goes on, with input unread if it went no further; or an answer could not be written, status 2
+-- bytes are answered: all of them, and the run goes on, status 1 if it ended here, since there may be more to read; or an answer could not be written,
+-- status 2
 pub data BytesAnswered (s : State) (bytes : List ℕ) (r : Reading) : Type 0 where
   all : r .more ≡ true → statusOf (r .ending) ≡ pos 1 → r .state ≡ stateAfter s bytes → BytesAnswered s bytes r
   unwritten : r .more ≡ false → statusOf (r .ending) ≡ pos 2 → BytesAnswered s bytes r
@@ -28,7 +29,8 @@ pub data InputEnded (s : State) (r : Reading) : Type 0 where
   over : r .more ≡ false → statusOf (r .ending) ≡ pos 0 → r .state ≡ stateAfter s (lastFeed s) → InputEnded s r
   unwritten : r .more ≡ false → statusOf (r .ending) ≡ pos 2 → InputEnded s r
 
--- a read fails: nothing is answered, the state stays, and the run ends with status 1; it gives nothing: the input ends; or it gives bytes
+-- a read fails, and then nothing is answered, the state stays as it was, and the run ends with status 1; or it gives nothing, and the input ends; or it
+-- gives bytes, and these are answered
 pub data FollowsRead (s : State) (got : ℤ) (buffer : List ℕ) (r : Reading) : Type 0 where
   failed : ltZ got (pos 0) ≡ true → r .more ≡ false → statusOf (r .ending) ≡ pos 1 → r .state ≡ s → FollowsRead s got buffer r
   ended : got ≡ pos 0 → InputEnded s r → FollowsRead s got buffer r
