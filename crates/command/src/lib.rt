@@ -1,5 +1,7 @@
 // The command language of the pass planner: lines of bytes to commands, answers to lines of bytes, and
 // a session that holds a plan and the jobs kept for its next load. No input or output.
+#![tactic(auto)]
+
 pub mod lines;
 pub mod number;
 pub mod parse;
@@ -9,7 +11,7 @@ mod text;
 use planner::{Job, Jobs, Plan};
 
 // What a line asks for.
-#[derive(Drop)]
+#[derive(Clone, Copy)]
 pub enum Command {
     Keep(Job),
     Load(i32),
@@ -20,7 +22,7 @@ pub enum Command {
 }
 
 // A plan and the jobs that are kept for its next load.
-#[derive(Drop)]
+#[derive(Clone, Copy)]
 pub struct Session {
     pub(crate) plan: Plan,
     pub(crate) jobs: Jobs,

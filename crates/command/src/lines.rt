@@ -10,14 +10,14 @@ use planner::Jobs;
 
 // The bytes of a line that is not complete, in `line` up to `len`. Past `Reader::LINE` one more byte is
 // kept, which makes the line too long to be read, and no others.
-#[derive(Drop)]
+#[derive(Clone, Copy)]
 pub struct Reader {
     pub(crate) line: [u8; Reader::ROOM],
     pub(crate) len: usize,
 }
 
 // A session, and the line that it is in the middle of.
-#[derive(Drop)]
+#[derive(Clone, Copy)]
 pub struct State {
     pub(crate) session: Session,
     pub(crate) reader: Reader,
@@ -25,7 +25,7 @@ pub struct State {
 
 // What some bytes lead to: the state afterwards, where the bytes that are left start, and how many bytes
 // of the lent slice are the answers.
-#[derive(Drop)]
+#[derive(Clone, Copy)]
 pub struct Served {
     pub state: State,
     pub next: usize,

@@ -10,7 +10,7 @@ use planner::Job;
 
 // The numbers of a line, in `list` up to `count`; not ok where a field is no number, or there are more
 // than four.
-#[derive(Drop)]
+#[derive(Clone, Copy)]
 pub struct Numbers {
     pub ok: bool,
     pub list: [i32; 4],

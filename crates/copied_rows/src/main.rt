@@ -1,5 +1,7 @@
 // Tries the copy of rows to a lent slice of three places: fewer rows than places, as many, more, and
 // none since the table is stale. It writes a line for each: the answer, and each place's height.
+#![tactic(auto)]
+
 ghost use Rattle.planner.specs.Sound.{Sound};
 
 use lent::Copied;

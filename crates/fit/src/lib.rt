@@ -1,5 +1,7 @@
 // First fit: the smallest start within a task's bounds at which its run fits under the capacity,
 // beside what a table already holds. One pass over the rows of the table, and none over instants.
+#![tactic(auto)]
+
 ghost use Rattle.std.specs.Prelude.{◌≡◌, ◌≤◌};
 ghost use Rattle.time_table.specs.Rows.{rows_of};
 ghost use Rattle.fit.specs.FirstFit.{blocks, answer, first_fit, Askable};
@@ -8,7 +10,7 @@ use time_table::{Row, Table};
 
 // What a task asks with: the bounds of its start, both in it, how many instants it runs and what it
 // draws at each.
-#[derive(Drop)]
+#[derive(Clone, Copy)]
 pub struct Asked {
     pub earliest: u32,
     pub latest: u32,
@@ -17,7 +19,7 @@ pub struct Asked {
 }
 
 // The start that was found; or none, and 0.
-#[derive(Drop)]
+#[derive(Clone, Copy)]
 pub struct Fit {
     pub found: bool,
     pub start: u32,

@@ -1,5 +1,7 @@
 // Tries the plan that a controller keeps and lends: a load and updates, some of them refused. It
 // writes a line for each.
+#![tactic(auto)]
+
 use lent::controller::{Controller, begin, step};
 use planner::{Answer, Job, Jobs};
 

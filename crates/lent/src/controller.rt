@@ -9,7 +9,7 @@ use crate::{Changed, Placing};
 use planner::{Answer, Jobs, Plan, records};
 
 // A controller: its plan, and what the last change of it answered.
-#[derive(Drop)]
+#[derive(Clone, Copy)]
 pub struct Controller {
     pub plan: Plan,
     pub last: Changed,

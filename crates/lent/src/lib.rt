@@ -1,5 +1,7 @@
 // The lent forms of the planner: a plan that its keeper lends to be changed, and rows that are copied
 // to a lent slice.
+#![tactic(auto)]
+
 pub mod controller;
 pub mod in_place;
 pub mod rows;
@@ -9,14 +11,14 @@ use sweep::Tasks;
 use sweep::util::Placed;
 
 // What a change of a lent plan answers: the answer, and the row that is too high, if one is.
-#[derive(Drop)]
+#[derive(Clone, Copy)]
 pub struct Changed {
     pub answer: Answer,
     pub row: RowRecord,
 }
 
 // What a load of a lent plan answers: the same, and for each input job its id or that it was dropped.
-#[derive(Drop)]
+#[derive(Clone, Copy)]
 pub struct Placing {
     pub answer: Answer,
     pub row: RowRecord,
@@ -24,7 +26,7 @@ pub struct Placing {
 }
 
 // What a copy of rows answers, and how many rows it copied.
-#[derive(Drop)]
+#[derive(Clone, Copy)]
 pub struct Copied {
     pub answer: Checked,
     pub count: usize,

@@ -1,5 +1,7 @@
 // The pass planner's program, for a linker that takes the function `pass_planner` for `main` (build.sh):
 // a Rattle program has no exit status, and this one tells by it whether all its input was answered.
+#![tactic(auto)]
+
 ghost use Rattle.terminal.specs.Endings.{Status};
 
 use libc::STDERR_FILENO;

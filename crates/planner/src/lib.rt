@@ -1,5 +1,7 @@
 // The pass planner: jobs with signed numbers, limits, numbered refusals, and a plan that is loaded,
 // updated and asked. What a caller hands in and gets back is signed; inside all instants are ticks.
+#![tactic(auto)]
+
 mod border;
 pub mod load;
 mod plans;
@@ -20,7 +22,7 @@ use time_table::{Row, Table};
 //
 // Here and in what holds a table, a plan or rows, the large field comes first: the compiler makes fewer
 // copies of such a struct than of one that starts with a small field.
-#[derive(Drop)]
+#[derive(Clone, Copy)]
 pub struct Plan {
     pub(crate) table: Table,
     pub(crate) tasks: Tasks,
@@ -44,7 +46,7 @@ impl Plan {
 }
 
 // A job as a caller hands it in, checked at the load.
-#[derive(Drop)]
+#[derive(Clone, Copy)]
 pub struct Job {
     pub earliest: i32,
     pub latest: i32,
@@ -53,7 +55,7 @@ pub struct Job {
 }
 
 // The jobs of a load, in `list` up to `count`.
-#[derive(Drop)]
+#[derive(Clone, Copy)]
 pub struct Jobs {
     pub list: [Job; Plan::JOBS],
     pub count: usize,
@@ -94,7 +96,7 @@ impl Jobs {
 }
 
 // A row as a caller gets it: its instants from `start` to `end`, both in it, its height and its ids.
-#[derive(Drop)]
+#[derive(Clone, Copy)]
 pub struct RowRecord {
     pub start: i32,
     pub end: i32,
@@ -109,7 +111,7 @@ impl RowRecord {
 }
 
 // Why a call is refused.
-#[derive(Drop)]
+#[derive(Clone, Copy)]
 pub enum Refusal {
     TooManyJobs,
     CapacityOutOfRange,
@@ -146,14 +148,14 @@ impl Refusal {
 }
 
 // What a check finds.
-#[derive(Drop)]
+#[derive(Clone, Copy)]
 pub enum Checked {
     Accepted,
     Refused(Refusal),
 }
 
 // The answer of a load or an update.
-#[derive(Drop)]
+#[derive(Clone, Copy)]
 pub enum Answer {
     Fits,
     Overloaded,
@@ -161,7 +163,7 @@ pub enum Answer {
 }
 
 // What an update leads to: the plan afterwards, the answer, and the row that is too high, if one is.
-#[derive(Drop)]
+#[derive(Clone, Copy)]
 pub struct Updated {
     pub plan: Plan,
     pub answer: Answer,
@@ -169,7 +171,7 @@ pub struct Updated {
 }
 
 // What a load leads to: the same, and for each input job its id or that it was dropped.
-#[derive(Drop)]
+#[derive(Clone, Copy)]
 pub struct Loaded {
     pub plan: Plan,
     pub answer: Answer,
@@ -178,7 +180,7 @@ pub struct Loaded {
 }
 
 // What a question for the first fit finds.
-#[derive(Drop)]
+#[derive(Clone, Copy)]
 pub enum FirstFit {
     Start(i32),
     Nowhere,
@@ -186,7 +188,7 @@ pub enum FirstFit {
 }
 
 // The rows of a live table, in `rows` up to `count`; or a refusal and no rows.
-#[derive(Drop)]
+#[derive(Clone, Copy)]
 pub struct Rows {
     pub rows: [RowRecord; Plan::ROWS],
     pub count: usize,

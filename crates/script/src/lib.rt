@@ -1,5 +1,7 @@
 // The pass planner for programs in other languages: a script of commands, given as numbers in a lent
 // slice, is run on a fresh plan, and the answers are written as numbers to another.
+#![tactic(auto)]
+
 mod answers;
 mod parse;
 mod session;
@@ -11,14 +13,14 @@ ghost use Rattle.script.specs.Pages.{overlaid};
 use planner::{Job, Jobs, Plan};
 
 // A command that may change the plan.
-#[derive(Drop)]
+#[derive(Clone, Copy)]
 pub enum Change {
     Load(i32),
     Update(i32, i32, i32),
 }
 
 // A command that leaves the plan as it is.
-#[derive(Drop)]
+#[derive(Clone, Copy)]
 pub enum Ask {
     Keep(Job),
     FirstFit(i32),
@@ -27,7 +29,7 @@ pub enum Ask {
 }
 
 // One command of a script.
-#[derive(Drop)]
+#[derive(Clone, Copy)]
 pub enum Command {
     Change(Change),
     Ask(Ask),

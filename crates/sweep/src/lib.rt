@@ -2,6 +2,8 @@
 //
 // A port of Pumpkin's create_tasks and of its sweep over the starts and ends of mandatory parts; the
 // modules have the names of the files that they follow. Instants are ticks.
+#![tactic(auto)]
+
 pub mod time_table_over_interval;
 pub mod util;
 
@@ -12,7 +14,7 @@ use time_table::Part;
 
 // A task: the bounds of its start, how long it runs and what it draws. Its id is its place. One whose
 // mandatory part is empty is in no table.
-#[derive(Drop)]
+#[derive(Clone, Copy)]
 pub struct Task {
     pub earliest: u32,
     pub latest: u32,
@@ -21,7 +23,7 @@ pub struct Task {
 }
 
 // Tasks or jobs, in `list` up to `count`. Unused places are 0.
-#[derive(Drop)]
+#[derive(Clone, Copy)]
 pub struct Tasks {
     pub list: [Task; Tasks::ROOM],
     pub count: usize,

@@ -1,4 +1,6 @@
 // The loop of the programs: commands from standard input, answers to standard output.
+#![tactic(auto)]
+
 ghost use Rattle.std.specs.Prelude.{◌≡◌, false, ◌≤◌, ◌<◌, length};
 ghost use Rattle.command.specs.Text.{longest};
 ghost use Rattle.command.specs.Lines.{ReadyState};
@@ -9,7 +11,7 @@ use command::lines::State;
 use libc::{STDIN_FILENO, STDOUT_FILENO};
 
 // How a run ends: all input was answered, some of it was not read, or an answer could not be written.
-#[derive(Drop)]
+#[derive(Clone, Copy)]
 pub enum Ending {
     Over,
     Unread,
@@ -30,7 +32,7 @@ impl Ending {
 }
 
 // The state after some bytes, whether to go on, and how the run ends if not.
-#[derive(Drop)]
+#[derive(Clone, Copy)]
 struct Reading {
     state: State,
     more: bool,

@@ -4,6 +4,8 @@
 // A port of Pumpkin's over-interval time-table; the modules have the names of the files that they
 // follow, but for `part_by_part` and `pieces`. Instants are ticks, so that no number can stand for
 // "none" (docs/DECISIONS.md).
+#![tactic(auto)]
+
 pub mod checks;
 pub mod mandatory_part_adjustments;
 mod part_by_part;
@@ -16,7 +18,7 @@ ghost use Rattle.std.specs.Prelude.{◌≡◌, []};
 ghost use Rattle.time_table.specs.Rows.{empty_row, table_of};
 
 // A part of a task: the instants from `from` up to but without `until`.
-#[derive(Drop)]
+#[derive(Clone, Copy)]
 pub struct Part {
     pub from: u32,
     pub until: u32,
@@ -26,7 +28,7 @@ pub struct Part {
 
 // A row (the Rust's ResourceProfile): the instants from `start` to `end`, both in it, the tasks that
 // must run there, in `ids` up to `count`, and the sum of their usages. Unused places are 0.
-#[derive(Drop)]
+#[derive(Clone, Copy)]
 pub struct Row {
     pub start: u32,
     pub end: u32,
@@ -36,14 +38,14 @@ pub struct Row {
 }
 
 // The rows of a time-table, in `rows` up to `count`. From there on they are the empty row.
-#[derive(Drop)]
+#[derive(Clone, Copy)]
 pub struct Table {
     pub rows: [Row; Table::ROWS],
     pub count: usize,
 }
 
 // A row that is too high, if there is one; else the empty row.
-#[derive(Drop)]
+#[derive(Clone, Copy)]
 pub struct Conflict {
     pub found: bool,
     pub row: Row,
@@ -51,7 +53,7 @@ pub struct Conflict {
 
 // A table after an update; or, where some one part would leave over 128 rows, the table as it was, and
 // `over`.
-#[derive(Drop)]
+#[derive(Clone, Copy)]
 pub struct Edited {
     pub table: Table,
     pub over: bool,

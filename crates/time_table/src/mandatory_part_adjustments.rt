@@ -6,14 +6,14 @@ ghost use Rattle.time_table.specs.Adjustments.{parts_of, HeldParts, stretch, Add
 use crate::Part;
 
 // Two parts at most, in `parts` up to `count`. From there on they are the empty part.
-#[derive(Drop)]
+#[derive(Clone, Copy)]
 pub struct Parts {
     pub parts: [Part; 2],
     pub count: usize,
 }
 
 // The parts that an update takes out of the time-table, and then those that it puts in.
-#[derive(Drop)]
+#[derive(Clone, Copy)]
 pub struct MandatoryPartAdjustments {
     pub removed: Parts,
     pub added: Parts,

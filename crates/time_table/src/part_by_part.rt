@@ -12,7 +12,7 @@ use crate::time_table_util::has_overlap_with_interval;
 use crate::{Part, Row, checks, pieces, removal};
 
 // A part, and whether it is taken out of the table or put into it.
-#[derive(Drop)]
+#[derive(Clone, Copy)]
 pub struct Step {
     pub part: Part,
     pub taking: bool,

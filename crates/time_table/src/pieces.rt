@@ -6,7 +6,7 @@ ghost use Rattle.time_table.specs.Pieces.{Cuts};
 use crate::Row;
 
 // A piece of a row, if there is one (else any row); and the number of the piece to look for next.
-#[derive(Drop)]
+#[derive(Clone, Copy)]
 pub struct Piece {
     pub row: Row,
     pub next: usize,

@@ -1,0 +1,12 @@
+-- `load` meets its contract: what the plan's load leads to, and the plan afterwards is sound.
+-- Assumes nothing.
+use mathlib.Core.Path.{ap, ◌∙◌}
+use mir.Facts.{to_z-of_z}
+use Rattle.planner.specs.History.{without_places}
+use Rattle.planner.specs.Loads.{loaded}
+use borrow.Author.Rules.{rules}
+use Rattle.script.proofs.session.load.Goals as goal
+
+pub returns : goal.returns
+returns c =
+    record { value = ap without_places (c.load-loaded.ensures.0 ∙ ap (loaded c.args.plan c.args.jobs) (to_z-of_z c.ranges.capacity)); sound = c.load-loaded.ensures.1 }

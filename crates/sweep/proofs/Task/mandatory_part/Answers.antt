@@ -1,0 +1,8 @@
+-- `mandatory_part` meets its contract, since `run_end_lem` does.
+-- Assumes nothing.
+use mathlib.Core.Path.{refl}
+use borrow.Author.Rules.{rules}
+use Rattle.sweep.proofs.Task.mandatory_part.Goals as goal
+
+pub returns : goal.returns
+returns c = rw (← c.run_end_lem.ensures) refl
