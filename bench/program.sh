@@ -2,8 +2,7 @@
 # Builds the program and the oracle, races the two on whole inputs through pipes, and says how much stack the
 # program needs; prints a table in Markdown:
 #     program.sh [RUNS]
-# With PROGRAM set, that program races in place of ours. On a processor other than x86-64 ours is compiled
-# for it (native.sh).
+# With PROGRAM set, that program races in place of ours.
 set -eu
 runs=${1:-5}
 case $#$runs in
@@ -18,12 +17,9 @@ here=$(cd "$(dirname "$0")" && pwd)
 need cargo python3
 [ -n "${PROGRAM:-}" ] || need rt
 cargo build --release --offline --quiet --manifest-path "$here/../oracle/Cargo.toml"
-if [ -z "${PROGRAM:-}" ] && [ "$(uname -m)" = x86_64 ]; then
+if [ -z "${PROGRAM:-}" ]; then
     sh "$here/../build.sh" >&2
     PROGRAM=$here/../target/bin/pass_planner
-elif [ -z "${PROGRAM:-}" ]; then
-    PROGRAM=$here/../target/native/pass_planner
-    sh "$here/../native.sh" pass_planner "$PROGRAM" >&2
 fi
 if ! [ -x "$PROGRAM" ]; then
     echo "program.sh: the program '$PROGRAM' cannot be executed" >&2

@@ -1,6 +1,6 @@
 // The program on document 01's listing.
 #![tactic(auto)]
 
-fn main() {
-    terminal::answer_input();
+fn main(rt: HostRuntime) {
+    terminal::answer_input(&rt);
 }

@@ -1,12 +1,16 @@
 -- What follows a read, by what it gave. What is read and written is the system's; that a line is answered only once it is whole, and with which status a
 -- run ends, is said here.
-use Rattle.std.specs.Prelude.{◌≡◌, true, false, List, [], ◌∷◌, ℕ, ℤ, pos, length, take}
+use Rattle.std.specs.Prelude.{◌≡◌, true, false, List, [], ◌∷◌, ℕ, ℤ, pos, negsuc, min, length, take}
 use Rattle.std.specs.Int.Signed.{lt_z}
-use Rattle.io.specs.Counts.{clamp_len}
 use Rattle.command.specs.declared.lines.State.{State}
 use Rattle.command.specs.Lines.{byte_taken, last_feed}
 use Rattle.terminal.specs.declared.Reading.{Reading}
 use Rattle.terminal.specs.Endings.{status_of}
+
+-- what a read gave, brought into 0 to the most that it can give
+abbrev pub clamp_len : ℤ → ℕ → ℕ
+clamp_len (pos k) most = min k most
+clamp_len (negsuc k) most = 0
 
 -- the state after some bytes, however they are served
 unfoldable pub state_after : State → List ℕ → State

@@ -1,14 +1,15 @@
 // The loop of the programs: commands from standard input, answers to standard output.
 #![tactic(auto)]
 
-ghost use Rattle.std.specs.Prelude.{◌≡◌, false, ◌≤◌, ◌<◌, length};
+ghost use Rattle.std.specs.Prelude.{◌≡◌, false, ◌≤◌, ◌<◌, length, min};
 ghost use Rattle.command.specs.Text.{longest};
 ghost use Rattle.command.specs.Lines.{ReadyState};
 ghost use Rattle.terminal.specs.Endings.{status_of, Status};
-ghost use Rattle.terminal.specs.Reads.{BytesAnswered, InputEnded, FollowsRead};
+ghost use Rattle.terminal.specs.Reads.{clamp_len, BytesAnswered, InputEnded, FollowsRead};
 
 use command::lines::State;
-use libc::{STDIN_FILENO, STDOUT_FILENO};
+use std::io;
+use std::io::{Read, Write};
 
 // How a run ends: all input was answered, some of it was not read, or an answer could not be written.
 #[derive(Clone, Copy)]
@@ -50,9 +51,39 @@ fn ended(state: State, ending: Ending) -> Reading
     }
 }
 
+// Writes answers, and says whether all of them could be written.
+fn written<R: Print>(rt: &R, answers: &[u8]) -> bool {
+    io::writer(rt).write_all(answers).is_ok()
+}
+
+// Reads once, and says how many bytes that gave, or -1 where the read failed.
+fn bytes_read<R: Input>(rt: &R, buffer: &mut [u8]) -> isize {
+    match rt.reader().read(buffer) {
+        Ok(n) => n as isize,
+        Err(_) => -1,
+    }
+}
+
+// Turns what a read gave into a number of the buffer's bytes: 0 where it failed, and never more than there are.
+fn count(got: isize, buffer: &[u8]) -> usize
+    ensures { result ≡ clamp_len got (length buffer.now) }
+{
+    if got > 0 {
+        return least(got as usize, buffer.len());
+    }
+    0
+}
+
+// The less of two numbers.
+fn least(a: usize, b: usize) -> usize
+    ensures { result ≡ min a b }
+{
+    if a < b { a } else { b }
+}
+
 // Answers the lines that these bytes end. The answers are gathered and written together, at the latest
 // when the bytes are used up. An answer that cannot be written is the end.
-fn serve_all(from: State, chunk: &[u8], out: &mut [u8]) -> Reading
+fn serve_all<R: Print>(rt: &R, from: State, chunk: &[u8], out: &mut [u8]) -> Reading
     requires ready_state { ReadyState from }
     requires longest_in_bounds { longest ≤ length out.old }
     ensures bytes_answered { BytesAnswered from chunk.now result }
@@ -63,7 +94,7 @@ fn serve_all(from: State, chunk: &[u8], out: &mut [u8]) -> Reading
     while at < chunk.len() {
         let served = state.serve(chunk, at, out);
         let n = served.len;
-        let written = io::write_all(STDOUT_FILENO, &out[..n]);
+        let written = written(rt, &out[..n]);
         state = served.state;
         at = served.next;
         if !written {
@@ -78,7 +109,7 @@ fn serve_all(from: State, chunk: &[u8], out: &mut [u8]) -> Reading
 }
 
 // At the end of the input: a line that was begun is served the line feed that it lacks.
-fn serve_last(state: State, out: &mut [u8]) -> Reading
+fn serve_last<R: Print>(rt: &R, state: State, out: &mut [u8]) -> Reading
     requires ready_state { ReadyState state }
     requires longest_in_bounds { longest ≤ length out.old }
     ensures input_ended { InputEnded state result }
@@ -87,7 +118,7 @@ fn serve_last(state: State, out: &mut [u8]) -> Reading
     if !state.begun() {
         return ended(state, Ending::Over);
     }
-    let last = serve_all(state, b"\n", out);
+    let last = serve_all(rt, state, b"\n", out);
     if !last.more {
         return last;
     }
@@ -97,7 +128,7 @@ fn serve_last(state: State, out: &mut [u8]) -> Reading
 
 // Answers what a read gave: the lines that are complete, or at the end of the input the last one. A read
 // that fails is the end, and a line that was begun is then not answered: nobody said that it was whole.
-fn answer_read(state: State, got: isize, buffer: &[u8], out: &mut [u8]) -> Reading
+fn answer_read<R: Print>(rt: &R, state: State, got: isize, buffer: &[u8], out: &mut [u8]) -> Reading
     requires ready_state { ReadyState state }
     requires longest_in_bounds { longest ≤ length out.old }
     ensures follows_read { FollowsRead state got buffer.now result }
@@ -107,21 +138,21 @@ fn answer_read(state: State, got: isize, buffer: &[u8], out: &mut [u8]) -> Readi
         return ended(state, Ending::Unread);
     }
     if got == 0 {
-        return serve_last(state, out);
+        return serve_last(rt, state, out);
     }
-    let n = io::count(got, buffer);
-    serve_all(state, &buffer[..n], out)
+    let n = count(got, buffer);
+    serve_all(rt, state, &buffer[..n], out)
 }
 
 // Reads once, and answers that.
-fn read_some(state: State, out: &mut [u8]) -> Reading
+fn read_some<R: Input + Print>(rt: &R, state: State, out: &mut [u8]) -> Reading
     requires ready_state { ReadyState state }
     requires longest_in_bounds { longest ≤ length out.old }
     ensures { ReadyState result.state }
 {
-    let mut buffer = io::buffer();
-    let got = libc::read(STDIN_FILENO, &mut buffer);
-    answer_read(state, got, &buffer, out)
+    let mut buffer = [0u8; 4096];
+    let got = bytes_read(rt, &mut buffer);
+    answer_read(rt, state, got, &buffer, out)
 }
 
 // How many turns are left after one: none where there is no more to do.
@@ -134,7 +165,7 @@ fn turns_left(turns: u64, more: bool) -> u64
 
 // Reads and answers until the run ends, and says how. A proved loop has to end, and nothing says that the
 // input does. So the loop counts its turns down, from a number that no run uses up.
-fn run(out: &mut [u8]) -> Ending
+fn run<R: Input + Print>(rt: &R, out: &mut [u8]) -> Ending
     requires { longest ≤ length out.old }
     ensures { Status (status_of result) }
 {
@@ -142,7 +173,7 @@ fn run(out: &mut [u8]) -> Ending
     let mut ending = Ending::Unread;
     let mut turns = u64::MAX;
     while turns > 0 {
-        let reading = read_some(state, out);
+        let reading = read_some(rt, state, out);
         state = reading.state;
         ending = reading.ending;
         turns = turns_left(turns, reading.more);
@@ -151,9 +182,9 @@ fn run(out: &mut [u8]) -> Ending
 }
 
 // Answers standard input on standard output, and says how that ended.
-pub fn answer_input() -> Ending
+pub fn answer_input<R: Input + Print>(rt: &R) -> Ending
     ensures { Status (status_of result) }
 {
-    let mut out = io::large_buffer();
-    run(&mut out)
+    let mut out = [0u8; 65536];
+    run(rt, &mut out)
 }
