@@ -1,7 +1,6 @@
 -- `mandatory_part` meets its contract, since `run_end_lem` does.
 -- Assumes nothing.
 use mathlib.Core.Path.{refl}
-use borrow.Author.Rules.{rules}
 use Rattle.sweep.proofs.Task.mandatory_part.Goals as goal
 
 pub returns : goal.returns
