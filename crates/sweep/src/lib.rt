@@ -50,7 +50,7 @@ impl Task {
     }
 
     // The first instant after a run from the earliest start.
-    pub fn run_end_lem(self) -> u32
+    pub fn run_end(self) -> u32
         requires { run_end self < 2 ^ 32 }
         ensures { result ≡ run_end self }
     {
@@ -64,7 +64,7 @@ impl Task {
     {
         Part {
             from: self.latest,
-            until: self.run_end_lem(),
+            until: self.run_end(),
             id,
             usage: self.usage,
         }
