@@ -114,6 +114,7 @@ module _ (ts : List Task) where
   -- ---- from the runs to the sentence
 
   runs_low : {lo : ℕ} (rows : List Row) → OurRuns ts lo rows → (r : Row) → In r rows → lo ≤ r.start
+  runs_low [] _ r m = elim m [ ]
   runs_low (x ∷ rows) (more u v) r (here e) = omega (arith, u.from, ap (λ (q : Row). q.start) e)
   runs_low (x ∷ rows) (more u v) r (there m) = omega (arith, u.from, u.proper, runs_low rows v r m)
 
@@ -139,6 +140,7 @@ module _ (ts : List Task) where
     edge : (t : ℕ) → suc t ≡ r.start → ids_at ts t ≡ tasks r → ⊥
 
   bounded : {lo : ℕ} (rows : List Row) → OurRuns ts lo rows → ((t : ℕ) → suc t ≡ lo → ids_at ts t ≡ ids_at ts lo → ⊥) → (r : Row) → In r rows → Bounded r
+  bounded [] _ edge r m = elim m [ ]
   bounded {lo} (x ∷ rows) (more u v) edge r (here e) = subst (λ (q : Row). Bounded q) (sym e) (record { lo = lo; run = u; edge = go })
     where
       go : (t : ℕ) → suc t ≡ x.start → ids_at ts t ≡ tasks x → ⊥

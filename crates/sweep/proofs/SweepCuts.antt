@@ -24,6 +24,7 @@ pub data Asc : ℕ → List ℕ → Type 0 where
   cons : {lo y : ℕ} {ys : List ℕ} → lo ≤ y → Asc (suc y) ys → Asc lo (y ∷ ys)
 
 pub asc_low : {lo c : ℕ} {ys : List ℕ} → Asc lo ys → In c ys → lo ≤ c
+asc_low nil m = elim m [ ]
 asc_low (cons h a) (here e) = omega arith
 asc_low (cons h a) (there m) = let k = asc_low a m in omega arith
 
@@ -69,6 +70,7 @@ cut_new x (y ∷ ys) = go (insert_cut x (y ∷ ys)) (put x y ys) (cut_new x ys)
     go zs (same e) rec = here e
 
 cut_old : {c : ℕ} (x : ℕ) (ys : List ℕ) → In c ys → In c (insert_cut x ys)
+cut_old x [] m = elim m [ ]
 cut_old {c} x (y ∷ ys) m = go (insert_cut x (y ∷ ys)) (put x y ys) m (cut_old x ys)
   where
     go : (zs : List ℕ) → Put x y ys zs → In c (y ∷ ys) → (In c ys → In c (insert_cut x ys)) → In c zs

@@ -1,8 +1,7 @@
--- `mandatory_part` meets its contract, since `run_end_lem` does.
+-- `mandatory_part` meets its contract, since `run_end` does.
 -- Assumes nothing.
 use mathlib.Core.Path.{refl}
-use borrow.Author.Rules.{rules}
 use Rattle.sweep.proofs.Task.mandatory_part.Goals as goal
 
 pub returns : goal.returns
-returns c = rw (← c.run_end_lem.ensures) refl
+returns c = rw (← c.run_end.ensures) refl

@@ -1,7 +1,6 @@
 -- `Tasks::empty` meets its contract: a repeat of the task with nothing in it is the padding of no tasks.
 -- Assumes nothing.
 use mathlib.Core.Path.{refl}
-use borrow.Author.Rules.{rules}
 use Rattle.sweep.proofs.Tasks.empty.Goals as goal
 
 pub returns : goal.returns
