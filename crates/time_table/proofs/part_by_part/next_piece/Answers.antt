@@ -2,15 +2,15 @@
 -- Assumes nothing.
 use mathlib.Core.Path.{◌≡◌, sym, ap, ◌∙◌}
 use mathlib.Core.Bool.{Bool, true, false}
-use mathlib.Core.List.{[], append-nil}
-use Prim.Native.Nat.{ℕ, ◌≤◌, ◌<◌}
+use mathlib.Core.List.{append-nil}
+use Prim.Native.Nat.{ℕ, ◌≤◌}
 use native.Mathlib.Omega.{arith}
 use Rattle.time_table.specs.declared.Row.{Row}
 use Rattle.time_table.specs.declared.Part.{Part}
 use Rattle.time_table.specs.declared.pieces.Piece.{Piece}
 use Rattle.time_table.specs.Pieces.{Cuts, before_part}
 use Rattle.time_table.specs.Insertion.{gap_before}
-use Rattle.time_table.specs.PartByPart.{gap_in, covered_in, pieces_from, NextPiece, Changeable}
+use Rattle.time_table.specs.PartByPart.{gap_in, covered_in, pieces_from}
 use Rattle.time_table.proofs.part_by_part.PiecesInTurn.{no_piece, no_gap, no_left, no_covered, found, row_ends}
 use Rattle.time_table.proofs.part_by_part.next_piece.Goals.{then-number-eq0+then-not-taking+else-gap, then-number-eq0+else-not-taking, else-number-eq0, then-number-le1+else-left, else-number-le1, then-number-le2+else-covered, else-number-le2}
 use Rattle.time_table.proofs.part_by_part.next_piece.Goals as goal

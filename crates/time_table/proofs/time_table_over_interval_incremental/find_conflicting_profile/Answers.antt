@@ -3,10 +3,7 @@
 -- Assumes nothing.
 use mathlib.Core.Path.{◌≡◌, refl, sym, ◌∙◌}
 use mathlib.Core.Bool.{false}
-use Prim.Native.Nat.{◌≤◌, ◌-◌}
 use native.Mathlib.Omega.{arith}
-use borrow.Author.Rules.{rules}
-use lib.ListN.{drop}
 use Rattle.time_table.specs.Rows.{empty_row, rows_of}
 use Rattle.time_table.specs.Overload.{conflict_in}
 use Rattle.time_table.proofs.time_table_over_interval_incremental.RowsTooHigh.{conflict_here, conflict_further, conflict_none, none_higher}

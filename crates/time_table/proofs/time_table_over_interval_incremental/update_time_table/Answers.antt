@@ -2,8 +2,7 @@
 -- it makes.
 -- Assumes nothing.
 use mathlib.Core.Path.{◌≡◌, refl, sym, ap, ◌∙◌}
-use mathlib.Core.Bool.{Bool, true, false, true≢false}
-use mathlib.Core.List.{List}
+use mathlib.Core.Bool.{Bool, true, true≢false}
 use Prim.Native.Nat.{ℕ, ◌+◌, ◌-◌, ◌/◌, ◌≤◌, ◌<◌}
 use native.Mathlib.Omega.{arith}
 use borrow.Author.Tests.{lt-ltb, le-ltb}
@@ -11,12 +10,9 @@ use lib.Dec.{ltb}
 use lib.ListN.{set}
 use Rattle.time_table.specs.declared.Row.{Row}
 use Rattle.time_table.specs.declared.Part.{Part}
-use Rattle.time_table.specs.declared.Table.{Table}
-use Rattle.time_table.specs.declared.Edited.{Edited}
 use Rattle.time_table.specs.declared.part_by_part.Step.{Step}
 use Rattle.time_table.specs.declared.mandatory_part_adjustments.MandatoryPartAdjustments.{MandatoryPartAdjustments}
 use Rattle.time_table.specs.Rows.{no_row, row_at}
-use Rattle.time_table.specs.Update.{updated}
 use Rattle.time_table.specs.PartByPart.{untouched}
 use Rattle.time_table.proofs.part_by_part.PiecesInTurn.{alone_at}
 use Rattle.time_table.proofs.Front.{Front, front_behind, clear_start, clear_more, clear_all}
