@@ -1,2 +1,3 @@
 pub mod CandidateStart
+pub mod RowPass
 pub mod FirstFit

@@ -32,7 +32,8 @@ module _ (f : Row → ℕ) (t v : ℕ) (p : Part) (kept : (r : Row) (x y : ℕ) 
       ⊎_elim
       (λ lt. elim (ℕ_discrete r.height p.usage) [
         | yes e ↦
-            let none_left : f r - v ≡ 0 = omega (arith, l.flat lt e) in
+            let flat : f r ≡ v = l.flat lt e in
+            let none_left : f r - v ≡ 0 = omega arith in
             rw (lessened_flat p r e, none_left) (sym (cond_same (has x y t) 0))
         | no ne ↦
             let less : f (without r p.id p.usage) ≡ f r - v = omega (arith, l.falls lt) in

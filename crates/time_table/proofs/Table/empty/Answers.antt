@@ -1,7 +1,6 @@
 -- `Table::empty` meets its contract: a repeat of the empty row is the padding of no rows.
 -- Assumes nothing.
 use mathlib.Core.Path.{refl}
-use borrow.Author.Rules.{rules}
 use Rattle.time_table.proofs.Table.empty.Goals as goal
 
 pub returns : goal.returns

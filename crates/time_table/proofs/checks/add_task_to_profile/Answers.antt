@@ -3,7 +3,6 @@
 use Rattle.time_table.specs.Insertion.{joined}
 use Rattle.time_table.proofs.Held.{held_push}
 use Rattle.time_table.proofs.RowOf.{row_held}
-use borrow.Author.Rules.{rules}
 use Rattle.time_table.proofs.checks.add_task_to_profile.Goals as goal
 
 pub returns : goal.returns

@@ -2,7 +2,6 @@
 -- Assumes nothing.
 use mathlib.Core.Path.{sym, ◌∙◌}
 use Rattle.time_table.proofs.CoveredPiece.{heightened_apart}
-use borrow.Author.Rules.{rules}
 use native.Mathlib.Omega.{arith}
 use Rattle.time_table.proofs.checks.overlap_updated_profile.Goals as goal
 

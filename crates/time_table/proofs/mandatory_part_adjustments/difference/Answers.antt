@@ -2,7 +2,6 @@
 -- Assumes nothing.
 use Rattle.time_table.proofs.PartDifference.{left_apart, left_empty, left_ends, parts_held}
 use mathlib.Core.Path.{sym, ◌∙◌}
-use borrow.Author.Rules.{rules}
 use Rattle.time_table.proofs.mandatory_part_adjustments.difference.Goals as goal
 
 pub returns-then-apart : goal.returns-then-apart

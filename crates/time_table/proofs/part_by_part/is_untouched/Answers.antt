@@ -2,7 +2,6 @@
 -- the test of its end decides.
 -- Assumes nothing.
 use mathlib.Core.Path.{sym, ◌∙◌}
-use borrow.Author.Rules.{rules}
 use Rattle.time_table.proofs.part_by_part.is_untouched.Goals as goal
 
 pub returns-then-has_overlap_with_interval : goal.returns-then-has_overlap_with_interval

@@ -1,6 +1,5 @@
 -- `last_profile` meets its contract: nothing is laid where a part is taken out.
 -- Assumes nothing.
-use borrow.Author.Rules.{rules}
 use Rattle.time_table.proofs.part_by_part.last_profile.Goals as goal
 
 pub returns-then-step : goal.returns-then-step

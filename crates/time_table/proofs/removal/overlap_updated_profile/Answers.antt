@@ -2,7 +2,6 @@
 -- Assumes nothing.
 use mathlib.Core.Path.{sym, ◌∙◌}
 use Rattle.time_table.proofs.CoveredPiece.{lessened_flat, lessened_apart, lessened_is}
-use borrow.Author.Rules.{rules}
 use native.Mathlib.Omega.{arith}
 use Rattle.time_table.proofs.removal.overlap_updated_profile.Goals as goal
 

@@ -2,7 +2,6 @@
 -- Assumes nothing.
 use Rattle.time_table.specs.Removal.{without}
 use Rattle.time_table.proofs.RowOf.{row_held, held_taken}
-use borrow.Author.Rules.{rules}
 use native.Mathlib.Omega.{arith}
 use Rattle.time_table.proofs.removal.remove_task_from_profile.Goals as goal
 

@@ -2,14 +2,12 @@
 -- first from `at` on.
 -- Assumes nothing.
 use mathlib.Core.Path.{◌≡◌, refl, sym, ◌∙◌}
-use mathlib.Core.Logic.{⊎_elim}
-use Prim.Native.Nat.{◌≤◌, ◌-◌}
+use mathlib.Core.Bool.{false}
 use native.Mathlib.Omega.{arith}
-use borrow.Author.Rules.{rules}
-use lib.ListN.{drop}
-use Rattle.time_table.specs.Rows.{rows_of}
+use Rattle.time_table.specs.Rows.{empty_row, rows_of}
 use Rattle.time_table.specs.Overload.{conflict_in}
 use Rattle.time_table.proofs.time_table_over_interval_incremental.RowsTooHigh.{conflict_here, conflict_further, conflict_none, none_higher}
+use Rattle.time_table.proofs.time_table_over_interval_incremental.find_conflicting_profile.Goals.{then-capacity-highest+else-loop-at-test, else-capacity-highest}
 use Rattle.time_table.proofs.time_table_over_interval_incremental.find_conflicting_profile.Goals as goal
 
 pub highest-requires : goal.highest-requires
@@ -40,9 +38,10 @@ loop-at-preserved c =
 
 pub returns : goal.returns
 returns c =
-    rw c.empty.ensures
-    (sym
-    (⊎_elim
-    (λ w. w.1.inv.1 ∙ conflict_none c.args.capacity c.args.table w.1.at c.requires (omega (arith, w.3.left)))
-    (λ w. none_higher c.args.capacity (rows_of c.args.table) (omega (arith, w.left, c.highest.ensures)))
-    c.if-capacity-highest.branch))
+    let none : conflict_in c.args.capacity (rows_of c.args.table) ≡ record { found = false; row = empty_row } =
+    elim c.if-capacity-highest.branch [
+      | then-capacity-highest+else-loop-at-test w ↦
+          w.loop-at.invariant.1 ∙ conflict_none c.args.capacity c.args.table w.loop-at.at c.requires (omega (arith, w.loop-at-test.false))
+      | else-capacity-highest w ↦ none_higher c.args.capacity (rows_of c.args.table) (omega (arith, w.if-capacity-highest.false, c.highest.ensures))
+    ] in
+    rw c.empty.ensures (sym none)

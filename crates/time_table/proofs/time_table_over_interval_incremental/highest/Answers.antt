@@ -1,11 +1,6 @@
 -- `highest` meets its contract. The invariant: the greatest height is the greater of the one so far and of those from `at` on.
 -- Assumes nothing.
-use mathlib.Core.Path.{◌≡◌}
-use Prim.Native.Nat.{◌≤◌, ◌-◌, max}
 use native.Mathlib.Omega.{arith}
-use lib.ListN.{drop}
-use Rattle.time_table.specs.Rows.{rows_of}
-use Rattle.time_table.specs.Overload.{highest}
 use Rattle.time_table.proofs.time_table_over_interval_incremental.RowsTooHigh.{highest_here, highest_none}
 use Rattle.time_table.proofs.time_table_over_interval_incremental.highest.Goals as goal
 

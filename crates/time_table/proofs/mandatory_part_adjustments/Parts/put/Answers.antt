@@ -3,7 +3,6 @@
 use mathlib.Core.List.{append-nil}
 use Rattle.time_table.proofs.Held.{held_push}
 use Rattle.time_table.proofs.PartDifference.{stretch_none, stretch_some}
-use borrow.Author.Rules.{rules}
 use native.Mathlib.Omega.{arith}
 use Rattle.time_table.proofs.mandatory_part_adjustments.Parts.put.Goals as goal
 

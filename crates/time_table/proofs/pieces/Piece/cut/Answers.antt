@@ -2,7 +2,6 @@
 -- Assumes nothing.
 use mathlib.Core.Path.{refl, sym, ◌∙◌}
 use Rattle.time_table.proofs.Cut.{cut_none, cut_some}
-use borrow.Author.Rules.{rules}
 use Rattle.time_table.proofs.pieces.Piece.cut.Goals as goal
 
 pub returns-then-y-x : goal.returns-then-y-x

@@ -43,6 +43,10 @@ step_at a k =
 abbrev pub tabled : List Row → ℕ → Table
 tabled rows count = record { rows = rows; count = count }
 
+-- what a step is to make of the rows of a table
+abbrev pub made_of : Step → List Row → ℕ → List Row
+made_of step rows count = stepped step step.part.from (rows_of (tabled rows count))
+
 module _ (a : MandatoryPartAdjustments) (t : Table) where
   -- whether an update with these parts is over, and the rows that it comes to
   pub over_all : Bool

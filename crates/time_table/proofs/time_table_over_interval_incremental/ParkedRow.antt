@@ -22,9 +22,9 @@ use Rattle.time_table.proofs.Editable.{stepped, CanStep}
 use Rattle.time_table.proofs.Cut.{cut_none, cut_some}
 use Rattle.time_table.proofs.Sums.{lt_or_le}
 use Rattle.time_table.proofs.Front.{front_behind}
-use Rattle.time_table.proofs.time_table_over_interval_incremental.update_time_table.Proof.MovedToEnd.{Raised}
-use Rattle.time_table.proofs.time_table_over_interval_incremental.update_time_table.Proof.StepOverRows.{Late, first_lies, all_late}
-use Rattle.time_table.proofs.time_table_over_interval_incremental.update_time_table.Proof.LaidRows.{Laid, Moves, rest_length, piece_first, piece_more, laid_from, laid_piece, laid_none, laid_raised, laid_cut, rest_is, next_ahead, next_late, rests_more, laid_rests}
+use Rattle.time_table.proofs.time_table_over_interval_incremental.MovedToEnd.{Raised}
+use Rattle.time_table.proofs.time_table_over_interval_incremental.StepOverRows.{Late, first_lies, all_late}
+use Rattle.time_table.proofs.time_table_over_interval_incremental.LaidRows.{Laid, Moves, rest_length, piece_first, piece_more, laid_from, laid_piece, laid_none, laid_raised, laid_cut, rest_is, next_ahead, next_late, rests_more, laid_rests}
 
 -- a cut with an instant is a row
 cut_length : (r : Row) (x y : ℕ) → x < y → length (cut r x y) ≡ 1

@@ -22,8 +22,8 @@ use Rattle.time_table.proofs.Held.{held_length, held_next, held_end}
 use Rattle.time_table.proofs.part_by_part.PiecesInTurn.{no_piece}
 use Rattle.time_table.proofs.AtRow.{each_of}
 use Rattle.time_table.proofs.Front.{Front, front_as, front_store, front_behind}
-use Rattle.time_table.proofs.time_table_over_interval_incremental.update_time_table.Proof.MovedToEnd.{Raised}
-use Rattle.time_table.proofs.time_table_over_interval_incremental.update_time_table.Proof.StepOverRows.{stepped_nil, stepped_cons, stepped_skips, Reached, Late, late_on, late_first, all_late, Ahead, ahead_next, first_changeable, first_late, ahead_none, ordered_drop, each_drop}
+use Rattle.time_table.proofs.time_table_over_interval_incremental.MovedToEnd.{Raised}
+use Rattle.time_table.proofs.time_table_over_interval_incremental.StepOverRows.{stepped_nil, stepped_cons, stepped_skips, Reached, Late, late_on, late_first, all_late, Ahead, ahead_next, first_changeable, first_late, ahead_none, ordered_drop, each_drop}
 
 -- the rows that are left stand in an array from i on, up to `count`, and behind them it is blank
 pub record Unread (s : Step) (source : List Row) (count i : ℕ) (rest : List Row) : Type 0 where
