@@ -19,9 +19,9 @@ use borrow.Author.Rules.{rules}
 use native.Mathlib.Omega.{arith}
 use Rattle.planner.proofs.Plan.rows.Goals as goal
 
-live : (c : goal.In-loop-i → Live c.args.self.tasks c.args.self.table
+live : (c : goal.In-loop-i) → Live c.args.self.tasks c.args.self.table
 live c =
-    c.requires.live (not-false _ c.if-not-self.false)
+    c.requires.live c.if-not-self.false
 
 pub returns-then-not-self : goal.returns-then-not-self
 unfolding rows_shown
