@@ -21,7 +21,7 @@ use Rattle.planner.proofs.Plan.rows.Goals as goal
 
 live : (c : goal.In-loop-i) → Live c.args.self.tasks c.args.self.table
 live c =
-    c.requires.live c.if-not-self.false
+    c.requires.live (not-false c.args.self.live c.if-not-self.false)
 
 pub returns-then-not-self : goal.returns-then-not-self
 unfolding rows_shown
@@ -31,10 +31,10 @@ pub loop-i-init : goal.loop-i-init
 loop-i-init c = (omega arith, refl, rw c.no_record-none.ensures (record { is = refl; counts = refl; fits = omega arith }))
 
 pub offset_bounds-table-i : goal.offset_bounds-table-i
-offset_bounds-table-i c = omega (arith, (live c).clean.ranges)
+offset_bounds-table-i c = omega (arith, (live c).clean.fits)
 
 pub bounds-table-i : goal.bounds-table-i
-bounds-table-i c = omega (arith, (live c).clean.ranges)
+bounds-table-i c = omega (arith, (live c).clean.fits)
 
 pub record_of-requires : goal.record_of-requires
 record_of-requires c =

@@ -8,4 +8,4 @@ use borrow.Author.Rules.{rules}
 use Rattle.planner.proofs.questions.start_of.Goals as goal
 
 pub returns-then-fit : goal.returns-then-fit
-returns-then-fit c = rw c.if-fit.true (ap Start (to_z-of_z {w = w32} {z = c.instant_of.result} (record { sfits = c.instant_of.type-inv }) ∙ c.instant_of.ensures))
+returns-then-fit c = rw c.if-fit.true (ap Start (to_z-of_z {w = w32} {z = c.instant_of.result} (record { sfits = c.instant_of.type_inv }) ∙ c.instant_of.ensures))
