@@ -14,7 +14,6 @@ use Rattle.planner.specs.Updates.{known}
 use Rattle.planner.specs.Questions.{start_of}
 use Rattle.planner.proofs.Known.{known_true}
 use Rattle.planner.proofs.FitQuestions.{fit_unknown, fit_stale, fit_asked, asked_read, askable, start_low}
-use borrow.Author.Rules.{rules}
 use native.Mathlib.Omega.{arith}
 use Rattle.planner.proofs.Plan.first_fit.Goals as goal
 

@@ -2,7 +2,6 @@
 -- Assumes nothing.
 use mathlib.Core.Path.{refl}
 use Rattle.planner.proofs.Fresh.{fresh_sound}
-use borrow.Author.Rules.{rules}
 use Rattle.planner.proofs.Plan.fresh.Goals as goal
 
 pub returns : goal.returns

@@ -10,7 +10,6 @@ use Rattle.planner.specs.declared.Checked.{Checked}
 use Rattle.planner.specs.declared.Checked.TheVariants.{Accepted}
 use Rattle.planner.specs.Loads.{load_checked, accepted_load}
 use Rattle.planner.proofs.LoadedTasks.{load_by, load_accepted}
-use borrow.Author.Rules.{rules}
 use Rattle.planner.proofs.Plan.load.Goals as goal
 
 found : (jobs : Jobs) (capacity : ℤ) {said : Checked} → SFits w32 capacity → said ≡ load_checked jobs (to_z w32 (of_z w32 capacity))

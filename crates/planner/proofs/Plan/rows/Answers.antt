@@ -1,21 +1,18 @@
 -- `Plan::rows` meets its contract. The invariant: the first i places have the first i rows, in signed instants.
 -- Assumes nothing.
 use mathlib.Core.Path.{◌≡◌, refl, sym}
-use mathlib.Core.List.{map}
-use Prim.Native.Nat.{◌-◌, ◌≤◌, ◌<◌}
+use Prim.Native.Nat.{◌<◌}
 use borrow.Author.Tests.{not-true, not-false}
-use lib.ListN.{length, take}
+use lib.ListN.{length}
 use lib.Seq.{get_or-take}
-use Rattle.time_table.specs.Held.{Held}
 use Rattle.time_table.specs.Rows.{no_row, rows_of}
 use Rattle.time_table.proofs.Held.{held_as, held_push, held_length}
-use Rattle.planner.specs.Records.{record_of, no_record}
+use Rattle.planner.specs.Records.{record_of}
 use Rattle.planner.specs.Sound.{Live}
 use Rattle.planner.specs.Questions.{rows_shown}
 use Rattle.time_table.proofs.Mapped.{map_take}
 use Rattle.planner.proofs.Limits.{row_low}
 use Rattle.planner.specs.declared.Checked.TheVariants.{Accepted}
-use borrow.Author.Rules.{rules}
 use native.Mathlib.Omega.{arith}
 use Rattle.planner.proofs.Plan.rows.Goals as goal
 

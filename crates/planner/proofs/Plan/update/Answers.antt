@@ -3,7 +3,6 @@
 use mathlib.Core.Path.{◌≡◌, sym, ap, ◌∙◌}
 use mathlib.Core.Bool.{Bool, true}
 use Prim.Native.Nat.{ℕ, ◌≤◌, ◌<◌}
-use borrow.Author.Tests.{not-true, not-false}
 use lib.IntN.{ℤ}
 use mir.Syntax.{w32}
 use mir.Val.{SFits, to_z, of_z}
@@ -20,7 +19,6 @@ use Rattle.planner.proofs.Accepted.{Bounds, bounds_accepted}
 use Rattle.planner.proofs.Known.{known_true}
 use Rattle.planner.proofs.UpdatedPlan.{update_unknown, update_known}
 use native.Mathlib.Omega.{arith}
-use borrow.Author.Rules.{rules}
 use Rattle.planner.proofs.Plan.update.Goals as goal
 
 -- what the test of the id says of the number itself

@@ -1,14 +1,8 @@
 -- `check_bounds` meets its contract: its tests are the definition's, in the same order.
 -- Assumes nothing.
-use mathlib.Core.Path.{◌≡◌, sym}
-use mathlib.Core.Bool.{Bool, not, and-false}
-use borrow.Author.Rules.{rules}
-use lib.Signed.{lt_z}
-use mir.Syntax.{w32}
-use mir.Val.{to_z, of_z}
-use Rattle.planner.specs.declared.Refusal.TheVariants.{BoundsCrossed}
+use mathlib.Core.Bool.{and-false}
 use Rattle.planner.specs.Ranges.{bounds}
-use Rattle.planner.specs.Checks.{unless, bounds_checked}
+use Rattle.planner.specs.Checks.{bounds_checked}
 use Rattle.planner.proofs.Signed.{range_read, less_read}
 use Rattle.planner.proofs.border.check_bounds.Goals as goal
 

@@ -1,6 +1,5 @@
 -- `check_capacity` meets its contract: its test is the definition's.
 -- Assumes nothing.
-use borrow.Author.Rules.{rules}
 use Rattle.planner.specs.Checks.{capacity_checked}
 use Rattle.planner.proofs.Signed.{range_read}
 use Rattle.planner.proofs.border.check_capacity.Goals as goal

@@ -1,8 +1,8 @@
 -- `check_job` meets its contract: its checks are the definition's, in the same order.
 -- Assumes nothing.
-use mathlib.Core.Path.{◌≡◌, ◌∙◌}
+use mathlib.Core.Path.{◌∙◌}
 use native.Mathlib.Omega.{arith}
-use Rattle.planner.specs.Checks.{bounds_checked, job_checked}
+use Rattle.planner.specs.Checks.{job_checked}
 use Rattle.planner.proofs.Signed.{range_read, bounds_read}
 use Rattle.planner.proofs.border.check_job.Goals as goal
 

@@ -3,7 +3,6 @@
 use mathlib.Core.Path.{◌≡◌, refl, sym, ◌∙◌}
 use mathlib.Core.List.{List}
 use Prim.Native.Nat.{ℕ, ◌+◌, ◌≤◌, ◌<◌}
-use borrow.Author.Rules.{rules}
 use native.Mathlib.Omega.{arith}
 use lib.ListN.{length, get_or, take, drop}
 use Rattle.planner.specs.declared.Job.{Job}
@@ -31,10 +30,10 @@ returns-in-Refused c =
 
 pub loop-i-preserved : goal.loop-i-preserved
 loop-i-preserved c = (
-    omega arith,
-    c.loop-i.invariant.1
-    ∙ rw c.in_default.is at (step c.args.jobs.list c.args.jobs.count c.loop-i.i c.check_job-found.result (omega arith) c.loop-i-test.true c.check_job-found.ensures),
-  )
+  omega arith,
+  c.loop-i.invariant.1
+      ∙ rw c.in_default.is at (step c.args.jobs.list c.args.jobs.count c.loop-i.i c.check_job-found.result (omega arith) c.loop-i-test.true c.check_job-found.ensures),
+)
 
 pub returns : goal.returns
 returns c =

@@ -9,7 +9,6 @@ use mir.Facts.{to_z-of_z}
 use Rattle.planner.specs.declared.Checked.{Checked}
 use Rattle.planner.specs.Checks.{capacity_checked}
 use Rattle.planner.specs.Loads.{load_checked}
-use borrow.Author.Rules.{rules}
 use Rattle.planner.proofs.load.check_load.Goals as goal
 
 found : (capacity : ℤ) {said : Checked} → SFits w32 capacity → said ≡ capacity_checked (to_z w32 (of_z w32 capacity)) → capacity_checked capacity ≡ said

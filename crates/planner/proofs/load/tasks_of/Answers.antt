@@ -1,18 +1,14 @@
 -- `tasks_of` meets its contract. The invariant: the first i places have the first i jobs in ticks.
 -- Assumes nothing.
 use mathlib.Core.Path.{◌≡◌, refl, sym}
-use mathlib.Core.List.{map}
 use Prim.Native.Nat.{◌≤◌, ◌<◌}
-use lib.ListN.{length, take}
+use lib.ListN.{length}
 use lib.Seq.{get_or-take, length-take-le}
-use Rattle.time_table.specs.Held.{Held}
 use Rattle.time_table.proofs.Held.{held_as, held_push}
-use Rattle.sweep.specs.Tasks.{no_task}
 use Rattle.planner.specs.Given.{no_job}
 use Rattle.planner.specs.Loads.{task_of, jobs_of}
 use Rattle.planner.proofs.InputOrder.{jobs_accepted}
 use Rattle.time_table.proofs.Mapped.{map_take}
-use borrow.Author.Rules.{rules}
 use native.Mathlib.Omega.{arith}
 use Rattle.planner.proofs.load.tasks_of.Goals as goal
 

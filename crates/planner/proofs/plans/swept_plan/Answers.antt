@@ -2,7 +2,6 @@
 -- Assumes nothing.
 use Rattle.planner.proofs.Limits.{sound_sweepable}
 use Rattle.planner.proofs.AnswerAndPlan.{swept_low, swept_over_is, swept_fits_is, swept_stale_sound, swept_live_sound}
-use borrow.Author.Rules.{rules}
 use Rattle.planner.proofs.plans.swept_plan.Goals as goal
 
 pub create_time_table_over_interval_from_scratch-swept-requires : goal.create_time_table_over_interval_from_scratch-swept-requires

@@ -4,7 +4,6 @@ use mathlib.Core.Path.{ap, ◌∙◌}
 use mir.Syntax.{w32}
 use mir.Facts.{to_z-of_z}
 use Rattle.planner.specs.declared.FirstFit.TheVariants.{Start}
-use borrow.Author.Rules.{rules}
 use Rattle.planner.proofs.questions.start_of.Goals as goal
 
 pub returns-then-fit : goal.returns-then-fit

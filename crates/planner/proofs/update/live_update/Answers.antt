@@ -1,11 +1,10 @@
 -- `live_update` meets its contract: the table is edited from the task's old part to its new one, and where it is over nothing has changed.
 -- Assumes nothing.
 use mathlib.Core.Path.{◌≡◌, sym, ap, ◌∙◌}
-use mathlib.Core.Bool.{Bool, true, false}
+use mathlib.Core.Bool.{true, false}
 use Prim.Native.Nat.{ℕ, ◌≤◌, ◌<◌}
 use lib.ListN.{get_or}
 use Rattle.time_table.specs.declared.Part.{Part}
-use Rattle.time_table.specs.declared.Table.{Table}
 use Rattle.time_table.specs.declared.Edited.{Edited}
 use Rattle.time_table.specs.Rows.{rows_of}
 use Rattle.time_table.specs.Update.{updated}
@@ -22,7 +21,6 @@ use Rattle.planner.specs.Updates.{bounded, accepted_update}
 use Rattle.planner.proofs.Limits.{ends}
 use Rattle.planner.proofs.AnswerAndPlan.{live_sound, shown_low, live_over, live_fits}
 use Rattle.planner.proofs.UpdatedPlan.{read_is, updatable, stored, stored_sound, edit_over, edit_live, edit_clean, edit_whole}
-use borrow.Author.Rules.{rules}
 use native.Mathlib.Omega.{arith}
 use Rattle.planner.proofs.update.live_update.Goals as goal
 
@@ -134,7 +132,7 @@ returns-then-edited c =
     let is : r ≡ updated (old_part c.args.plan c.args.id) (new_part c.args.plan c.args.id c.args.earliest c.args.latest) c.args.plan.table =
     edit c.args.plan c.args.id c.args.earliest c.args.latest c.requires k c.rebounded-new.ensures c.mandatory_part.result c.mandatory_part-2.result c.mandatory_part.ensures c.mandatory_part-2.ensures r c.update_time_table-edited.ensures in
     let over = edit_over c.args.plan c.requires.0 c.args.id c.args.earliest c.args.latest c.requires.2 c.requires.3 c.requires.4 k
-        (new_is c.args.plan c.args.id c.args.earliest c.args.latest c.requires k c.rebounded-new.ensures) c.requires.1 r is c.if-edited.true in
+    (new_is c.args.plan c.args.id c.args.earliest c.args.latest c.requires k c.rebounded-new.ensures) c.requires.1 r is c.if-edited.true in
     let same : record { table = r.table; tasks = c.args.plan.tasks; capacity = c.args.plan.capacity; live = true } ≡ c.args.plan =
     λ i. record { table = over.0 i; tasks = c.args.plan.tasks; capacity = c.args.plan.capacity; live = sym c.requires.1 i } in
     record { value = (λ i. record { plan = same i; answer = Answer.Refused TooManyRows; row = c.no_record-row.ensures i }) ∙ over.1; sound = rw same c.requires.0 }
