@@ -107,6 +107,7 @@ more_drawn false y draw so = omega arith
 drawn_least : (js : List Job) → AllNumbers js → (ss : List ℤ) → Starts js ss → (t : ℤ) → drawn_at js t ≤ drawn_from js ss t
 unfolding AllNumbers drawn_at drawn_from
 drawn_least [] n ss chosen t = omega arith
+drawn_least (j ∷ js) n [] chosen t = elim chosen [ ]
 drawn_least (j ∷ js) n (s ∷ ss) (one start more) t =
     omega (
       arith,
@@ -117,6 +118,7 @@ drawn_least (j ∷ js) n (s ∷ ss) (one start more) t =
 drawn_fixed : (js : List Job) → AllNumbers js → AllFixed js → (ss : List ℤ) → Starts js ss → (t : ℤ) → drawn_at js t ≡ drawn_from js ss t
 unfolding AllNumbers AllFixed drawn_at drawn_from
 drawn_fixed [] n fixed ss chosen t = refl
+drawn_fixed (j ∷ js) n fixed [] chosen t = elim chosen [ ]
 drawn_fixed (j ∷ js) n fixed (s ∷ ss) (one start more) t =
     (λ i. cond (only_start j n.0 fixed.0 s start t i) (amount j.usage) 0 + drawn_fixed js n.1 fixed.1 ss more t i)
 

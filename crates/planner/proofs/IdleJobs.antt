@@ -8,11 +8,10 @@ use native.Mathlib.Omega.{arith}
 use borrow.Author.Tests.{ltb-false}
 use lib.Dec.{ltb}
 use lib.IntN.{ℤ, pos, negsuc}
-use Rattle.time_table.specs.Meaning.{has}
 use Rattle.time_table.proofs.Sums.{has_none}
 use Rattle.sweep.specs.Created.{keeps}
 use Rattle.planner.specs.declared.Job.{Job}
-use Rattle.planner.specs.Instants.{instant, tick, amount}
+use Rattle.planner.specs.Instants.{tick, amount}
 use Rattle.planner.specs.Running.{must_run}
 use Rattle.planner.specs.Loads.{task_of}
 use Rattle.planner.specs.Places.{Idle}

@@ -1,7 +1,7 @@
 -- The answer for each job of an accepted load: a job that is not dropped stands once in the order of the kept ones, and its place there is its id.
 -- Assumes nothing.
 use mathlib.Core.Path.{◌≡◌, refl, sym, ap, ◌∙◌}
-use mathlib.Core.Bool.{true, false, false≢true}
+use mathlib.Core.Bool.{true, false≢true}
 use mathlib.Core.List.{List, map}
 use mathlib.Core.Logic.{◌↔◌, ⊎_elim}
 use Prim.Native.Nat.{ℕ, ◌<◌}

@@ -2,7 +2,6 @@
 -- Assumes nothing.
 use borrow.Author.Tests.{lt-ltb, le-ltb}
 use Rattle.planner.specs.Kept.{keeping}
-use borrow.Author.Rules.{rules}
 use Rattle.planner.proofs.Jobs.keep.Goals as goal
 
 pub returns-then-count-lt-JOBS : goal.returns-then-count-lt-JOBS

@@ -2,8 +2,7 @@
 -- Assumes nothing.
 use mathlib.Core.Path.{refl}
 use Rattle.planner.proofs.Fresh.{fresh_sound}
-use borrow.Author.Rules.{rules}
 use Rattle.planner.proofs.Plan.fresh.Goals as goal
 
 pub returns : goal.returns
-returns c = rw (c.empty.ensures, c.empty-2.ensures) (refl, fresh_sound)
+returns c = rw (c.empty.ensures, c.empty-2.ensures) (record { value = refl; sound = fresh_sound })

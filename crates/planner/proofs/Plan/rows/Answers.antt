@@ -1,27 +1,24 @@
 -- `Plan::rows` meets its contract. The invariant: the first i places have the first i rows, in signed instants.
 -- Assumes nothing.
 use mathlib.Core.Path.{◌≡◌, refl, sym}
-use mathlib.Core.List.{map}
-use Prim.Native.Nat.{◌-◌, ◌≤◌, ◌<◌}
+use Prim.Native.Nat.{◌<◌}
 use borrow.Author.Tests.{not-true, not-false}
-use lib.ListN.{length, take}
+use lib.ListN.{length}
 use lib.Seq.{get_or-take}
-use Rattle.time_table.specs.Held.{Held}
 use Rattle.time_table.specs.Rows.{no_row, rows_of}
 use Rattle.time_table.proofs.Held.{held_as, held_push, held_length}
-use Rattle.planner.specs.Records.{record_of, no_record}
+use Rattle.planner.specs.Records.{record_of}
 use Rattle.planner.specs.Sound.{Live}
 use Rattle.planner.specs.Questions.{rows_shown}
 use Rattle.time_table.proofs.Mapped.{map_take}
 use Rattle.planner.proofs.Limits.{row_low}
 use Rattle.planner.specs.declared.Checked.TheVariants.{Accepted}
-use borrow.Author.Rules.{rules}
 use native.Mathlib.Omega.{arith}
 use Rattle.planner.proofs.Plan.rows.Goals as goal
 
-live : (c : goal.In-loop-i → Live c.args.self.tasks c.args.self.table
+live : (c : goal.In-loop-i) → Live c.args.self.tasks c.args.self.table
 live c =
-    c.requires.live (not-false _ c.if-not-self.false)
+    c.requires.live (not-false c.args.self.live c.if-not-self.false)
 
 pub returns-then-not-self : goal.returns-then-not-self
 unfolding rows_shown
@@ -31,10 +28,10 @@ pub loop-i-init : goal.loop-i-init
 loop-i-init c = (omega arith, refl, rw c.no_record-none.ensures (record { is = refl; counts = refl; fits = omega arith }))
 
 pub offset_bounds-table-i : goal.offset_bounds-table-i
-offset_bounds-table-i c = omega (arith, (live c).clean.ranges)
+offset_bounds-table-i c = omega (arith, (live c).clean.fits)
 
 pub bounds-table-i : goal.bounds-table-i
-bounds-table-i c = omega (arith, (live c).clean.ranges)
+bounds-table-i c = omega (arith, (live c).clean.fits)
 
 pub record_of-requires : goal.record_of-requires
 record_of-requires c =

@@ -1,45 +1,34 @@
 -- `check_bounds` meets its contract: its tests are the definition's, in the same order.
 -- Assumes nothing.
-use mathlib.Core.Path.{◌≡◌, sym}
-use mathlib.Core.Bool.{Bool, not, and-false}
-use borrow.Author.Rules.{rules}
-use borrow.Author.Tests.{not-true, not-false}
-use lib.Signed.{lt_z}
-use mir.Syntax.{w32}
-use mir.Val.{to_z, of_z}
-use Rattle.planner.specs.declared.Refusal.TheVariants.{BoundsCrossed}
+use mathlib.Core.Bool.{and-false}
 use Rattle.planner.specs.Ranges.{bounds}
-use Rattle.planner.specs.Checks.{unless, bounds_checked}
+use Rattle.planner.specs.Checks.{bounds_checked}
 use Rattle.planner.proofs.Signed.{range_read, less_read}
 use Rattle.planner.proofs.border.check_bounds.Goals as goal
 
--- the numbers and their ranges, where the order is left to test
-abbrev entry : goal.Else-not-in_range-2 → goal.Start
-entry c = c.before.before.before.before
-
--- there the answer is the test's
-last : (c : goal.Else-not-in_range-2) {test : Bool} → lt_z (to_z w32 (of_z w32 (entry c).args.latest)) (to_z w32 (of_z w32 (entry c).args.earliest)) ≡ test
-    → bounds_checked (entry c).args.earliest (entry c).args.latest ≡ unless BoundsCrossed (not test)
-unfolding bounds_checked
-last c found =
-    let s = entry c in
-    rw (
-      range_read bounds s.fits.earliest c.in_range.ensures (not-false _ c.if-not-in_range.false),
-      range_read bounds s.fits.latest c.in_range-2.ensures (not-false _ c.if-not-in_range-2.false),
-      less_read s.args.latest s.args.earliest s.fits.latest s.fits.earliest found,
-    )
-
 pub returns-then-not-in_range : goal.returns-then-not-in_range
 unfolding bounds_checked
-returns-then-not-in_range c = rw (range_read bounds c.ranges.earliest c.in_range.ensures (not-true _ c.if-not-in_range.true))
+returns-then-not-in_range c = rw (range_read bounds c.ranges.earliest c.in_range.ensures c.if-not-in_range.true)
 
 pub returns-then-not-in_range-2 : goal.returns-then-not-in_range-2
 unfolding bounds_checked
-returns-then-not-in_range-2 c =
-    rw (range_read bounds c.ranges.latest c.in_range-2.ensures (not-true _ c.if-not-in_range-2.true), and-false)
+returns-then-not-in_range-2 c = rw (range_read bounds c.ranges.latest c.in_range-2.ensures c.if-not-in_range-2.true, and-false)
 
+-- where the order is left to test, the answer is its test's
 pub returns-then-latest-earliest : goal.returns-then-latest-earliest
-returns-then-latest-earliest c = sym (last c.before c.if-latest-earliest.true)
+unfolding bounds_checked
+returns-then-latest-earliest c =
+    rw (
+      range_read bounds c.ranges.earliest c.in_range.ensures c.if-not-in_range.false,
+      range_read bounds c.ranges.latest c.in_range-2.ensures c.if-not-in_range-2.false,
+      less_read c.args.latest c.args.earliest c.ranges.latest c.ranges.earliest c.if-latest-earliest.true,
+    )
 
 pub returns : goal.returns
-returns c = sym (last c.before c.if-latest-earliest.false)
+unfolding bounds_checked
+returns c =
+    rw (
+      range_read bounds c.ranges.earliest c.in_range.ensures c.if-not-in_range.false,
+      range_read bounds c.ranges.latest c.in_range-2.ensures c.if-not-in_range-2.false,
+      less_read c.args.latest c.args.earliest c.ranges.latest c.ranges.earliest c.if-latest-earliest.false,
+    )

@@ -7,7 +7,6 @@ use lib.Signed.{le_z}
 use mir.Facts.{to_z-of_z}
 use Rattle.planner.specs.Updates.{known}
 use Rattle.planner.proofs.Signed.{less_read}
-use borrow.Author.Rules.{rules}
 use native.Mathlib.Omega.{arith}
 use Rattle.planner.proofs.border.is_known.Goals as goal
 

@@ -2,10 +2,16 @@
 -- Assumes nothing.
 use mathlib.Core.Path.{◌≡◌, ap, ◌∙◌}
 use mathlib.Core.List.{map}
+use Prim.Native.Nat.{ℕ}
+use lib.IntN.{ℤ}
+use mir.Syntax.{w32}
+use mir.Val.{SFits, to_z, of_z}
 use mir.Facts.{to_z-of_z}
 use Rattle.sweep.specs.declared.util.Created.{Created}
-use Rattle.sweep.specs.Tasks.{tasks_of}
+use Rattle.sweep.specs.declared.Tasks.{Tasks}
+use Rattle.sweep.specs.Tasks.{tasks_of, tasks_with}
 use Rattle.sweep.specs.Created.{created, created_from}
+use Rattle.planner.specs.declared.Jobs.{Jobs}
 use Rattle.planner.specs.Instants.{amount}
 use Rattle.planner.specs.Answers.{swept_plan}
 use Rattle.planner.specs.Loads.{jobs_of, task_of, accepted_load}
@@ -15,15 +21,15 @@ use Rattle.planner.proofs.Known.{tasks_of_lem}
 use Rattle.planner.proofs.load.accepted_load.Goals as goal
 
 -- the tasks made of the jobs
-module _ (c : goal.After-create_tasks-created) where
-  made : c.create_tasks-created.result ≡ created_from (map task_of (jobs_of c.args.jobs))
-  made = c.create_tasks-created.ensures ∙ ap created_from (ap tasks_of c.tasks_of.ensures ∙ tasks_of_lem _)
+module _ (jobs : Jobs) (ts : Tasks) (r : Created) (taken : ts ≡ tasks_with (map task_of (jobs_of jobs))) (told : r ≡ created_from (tasks_of ts)) where
+  made : r ≡ created_from (map task_of (jobs_of jobs))
+  made = told ∙ ap created_from (ap tasks_of taken ∙ tasks_of_lem _)
 
-  tasks : tasks_of c.create_tasks-created.result.tasks ≡ created (map task_of (jobs_of c.args.jobs))
+  tasks : tasks_of r.tasks ≡ created (map task_of (jobs_of jobs))
   tasks = ap (λ (x : Created). tasks_of x.tasks) made ∙ tasks_of_lem _
 
-number : (c : goal.After-amount_of) → c.amount_of.result ≡ amount c.args.capacity
-number c = c.amount_of.ensures ∙ ap amount (to_z-of_z c.ranges.capacity)
+number : (capacity : ℤ) {n : ℕ} → SFits w32 capacity → n ≡ amount (to_z w32 (of_z w32 capacity)) → n ≡ amount capacity
+number capacity fits told = told ∙ ap amount (to_z-of_z fits)
 
 pub tasks_of-requires : goal.tasks_of-requires
 tasks_of-requires c = c.requires.0
@@ -37,11 +43,14 @@ amount_of-requires c =
 
 pub swept_plan-updated-requires : goal.swept_plan-updated-requires
 swept_plan-updated-requires c =
-    (rw (made c.before.before.before) (loaded_sound c.args.jobs c.requires.0), rw (number c.before) (capacity_accepted c.requires.1).top)
+    (rw (made c.args.jobs c.tasks_of.result c.create_tasks-created.result c.tasks_of.ensures c.create_tasks-created.ensures) (loaded_sound c.args.jobs c.requires.0), rw (number c.args.capacity c.ranges.capacity c.amount_of.ensures) (capacity_accepted c.requires.1).top)
 
 pub returns : goal.returns
 unfolding accepted_load
 returns c =
     let u : c.swept_plan-updated.result ≡ swept_plan (amount c.args.capacity) (created (map task_of (jobs_of c.args.jobs))) =
-    c.swept_plan-updated.ensures.value ∙ (λ i. swept_plan (number c.before.before.before.before i) (tasks c.before.before.before.before.before.before i)) in
-    record { value = (λ i. record { answer = (u i).answer; row = (u i).row; placed = (made c.before.before.before.before.before.before i).placed; plan = (u i).plan }); sound = c.swept_plan-updated.ensures.sound }
+    c.swept_plan-updated.ensures.value ∙ (λ i. swept_plan (number c.args.capacity c.ranges.capacity c.amount_of.ensures i) (tasks c.args.jobs c.tasks_of.result c.create_tasks-created.result c.tasks_of.ensures c.create_tasks-created.ensures i)) in
+    record {
+      value = (λ i. record { answer = (u i).answer; row = (u i).row; placed = (made c.args.jobs c.tasks_of.result c.create_tasks-created.result c.tasks_of.ensures c.create_tasks-created.ensures i).placed; plan = (u i).plan });
+      sound = c.swept_plan-updated.ensures.sound;
+    }

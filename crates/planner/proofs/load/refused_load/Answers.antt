@@ -1,7 +1,6 @@
 -- `refused_load` meets its contract: the plan is handed back, and a repeat of `dropped` is the padding of no jobs.
 -- Assumes nothing.
 use mathlib.Core.Path.{refl}
-use borrow.Author.Rules.{rules}
 use Rattle.planner.proofs.load.refused_load.Goals as goal
 
 pub returns : goal.returns

@@ -4,8 +4,7 @@ use mathlib.Core.Path.{ap, ◌∙◌}
 use mir.Syntax.{w32}
 use mir.Facts.{to_z-of_z}
 use Rattle.planner.specs.declared.FirstFit.TheVariants.{Start}
-use borrow.Author.Rules.{rules}
 use Rattle.planner.proofs.questions.start_of.Goals as goal
 
 pub returns-then-fit : goal.returns-then-fit
-returns-then-fit c = rw c.if-fit.true (ap Start (to_z-of_z {w = w32} {z = c.instant_of.result} (record { sfits = c.instant_of.type-inv }) ∙ c.instant_of.ensures))
+returns-then-fit c = rw c.if-fit.true (ap Start (to_z-of_z {w = w32} {z = c.instant_of.result} (record { sfits = c.instant_of.type_inv }) ∙ c.instant_of.ensures))

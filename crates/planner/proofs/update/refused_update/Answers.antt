@@ -1,7 +1,6 @@
 -- `refused_update` meets its contract: the plan is handed back.
 -- Assumes nothing.
 use mathlib.Core.Path.{refl}
-use borrow.Author.Rules.{rules}
 use Rattle.planner.proofs.update.refused_update.Goals as goal
 
 pub returns : goal.returns

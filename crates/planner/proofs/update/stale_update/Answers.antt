@@ -5,7 +5,6 @@ use Rattle.sweep.specs.Tasks.{tasks_of, task_at}
 use Rattle.planner.specs.Answers.{swept_plan}
 use Rattle.planner.specs.Updates.{bounded}
 use Rattle.planner.proofs.UpdatedPlan.{read_is, stored_sound, stored_tasks, accepted_by}
-use borrow.Author.Rules.{rules}
 use native.Mathlib.Omega.{arith}
 use Rattle.planner.proofs.update.stale_update.Goals as goal
 
