@@ -68,31 +68,55 @@ tick_of-to-requires c =
 
 pub live_update-requires : goal.live_update-requires
 live_update-requires c =
-    let w = inside c.args.self c.args.id c.args.earliest c.args.latest c.amount_of-place.result c.tick_of-from.result c.tick_of-to.result (id_known c.args.self c.args.id c.ranges.id c.is_known.ensures c.if-not-is_known.false) (bounds_read c.args.earliest c.args.latest c.ranges.earliest c.ranges.latest c.check_bounds-checked.ensures ∙ c.in-Accepted.is) (place c.args.id c.ranges.id c.amount_of-place.ensures) (moment c.args.earliest c.ranges.earliest c.tick_of-from.ensures) (moment c.args.latest c.ranges.latest c.tick_of-to.ensures) in
+    let is_true = id_known c.args.self c.args.id c.ranges.id c.is_known.ensures c.if-not-is_known.false in
+    let found = bounds_read c.args.earliest c.args.latest c.ranges.earliest c.ranges.latest c.check_bounds-checked.ensures ∙ c.in-Accepted.is in
+    let w = inside c.args.self c.args.id c.args.earliest c.args.latest c.amount_of-place.result c.tick_of-from.result c.tick_of-to.result is_true found
+    (place c.args.id c.ranges.id c.amount_of-place.ensures)
+    (moment c.args.earliest c.ranges.earliest c.tick_of-from.ensures)
+    (moment c.args.latest c.ranges.latest c.tick_of-to.ensures) in
     (c.requires, c.if-self.true, w.0, w.1, w.2)
 
 pub stale_update-requires : goal.stale_update-requires
 stale_update-requires c =
-    let w = inside c.args.self c.args.id c.args.earliest c.args.latest c.amount_of-place.result c.tick_of-from.result c.tick_of-to.result (id_known c.args.self c.args.id c.ranges.id c.is_known.ensures c.if-not-is_known.false) (bounds_read c.args.earliest c.args.latest c.ranges.earliest c.ranges.latest c.check_bounds-checked.ensures ∙ c.in-Accepted.is) (place c.args.id c.ranges.id c.amount_of-place.ensures) (moment c.args.earliest c.ranges.earliest c.tick_of-from.ensures) (moment c.args.latest c.ranges.latest c.tick_of-to.ensures) in
+    let is_true = id_known c.args.self c.args.id c.ranges.id c.is_known.ensures c.if-not-is_known.false in
+    let found = bounds_read c.args.earliest c.args.latest c.ranges.earliest c.ranges.latest c.check_bounds-checked.ensures ∙ c.in-Accepted.is in
+    let w = inside c.args.self c.args.id c.args.earliest c.args.latest c.amount_of-place.result c.tick_of-from.result c.tick_of-to.result is_true found
+    (place c.args.id c.ranges.id c.amount_of-place.ensures)
+    (moment c.args.earliest c.ranges.earliest c.tick_of-from.ensures)
+    (moment c.args.latest c.ranges.latest c.tick_of-to.ensures) in
     (c.requires, c.if-self.false, w.0, w.1, w.2)
 
 pub returns-in-Refused : goal.returns-in-Refused
 returns-in-Refused c =
+    let is_true = id_known c.args.self c.args.id c.ranges.id c.is_known.ensures c.if-not-is_known.false in
+    let found = bounds_read c.args.earliest c.args.latest c.ranges.earliest c.ranges.latest c.check_bounds-checked.ensures ∙ c.in-Refused.is in
     record {
-      value = c.refused_update-in-Refused.ensures ∙ sym (update_known c.args.self c.args.id c.args.earliest c.args.latest _ (id_known c.args.self c.args.id c.ranges.id c.is_known.ensures c.if-not-is_known.false) (bounds_read c.args.earliest c.args.latest c.ranges.earliest c.ranges.latest c.check_bounds-checked.ensures ∙ c.in-Refused.is));
+      value = c.refused_update-in-Refused.ensures ∙ sym (update_known c.args.self c.args.id c.args.earliest c.args.latest _ is_true found);
       sound = rw c.refused_update-in-Refused.ensures c.requires;
     }
 
 pub returns-then-self : goal.returns-then-self
 returns-then-self c =
+    let is_true = id_known c.args.self c.args.id c.ranges.id c.is_known.ensures c.if-not-is_known.false in
+    let found = bounds_read c.args.earliest c.args.latest c.ranges.earliest c.ranges.latest c.check_bounds-checked.ensures ∙ c.in-Accepted.is in
     record {
-      value = whole c.args.self c.args.id c.args.earliest c.args.latest c.amount_of-place.result c.tick_of-from.result c.tick_of-to.result (id_known c.args.self c.args.id c.ranges.id c.is_known.ensures c.if-not-is_known.false) (bounds_read c.args.earliest c.args.latest c.ranges.earliest c.ranges.latest c.check_bounds-checked.ensures ∙ c.in-Accepted.is) (place c.args.id c.ranges.id c.amount_of-place.ensures) (moment c.args.earliest c.ranges.earliest c.tick_of-from.ensures) (moment c.args.latest c.ranges.latest c.tick_of-to.ensures) c.live_update.ensures.value;
+      value = whole c.args.self c.args.id c.args.earliest c.args.latest c.amount_of-place.result c.tick_of-from.result c.tick_of-to.result is_true found
+          (place c.args.id c.ranges.id c.amount_of-place.ensures)
+          (moment c.args.earliest c.ranges.earliest c.tick_of-from.ensures)
+          (moment c.args.latest c.ranges.latest c.tick_of-to.ensures)
+          c.live_update.ensures.value;
       sound = c.live_update.ensures.sound;
     }
 
 pub returns-else-self : goal.returns-else-self
 returns-else-self c =
+    let is_true = id_known c.args.self c.args.id c.ranges.id c.is_known.ensures c.if-not-is_known.false in
+    let found = bounds_read c.args.earliest c.args.latest c.ranges.earliest c.ranges.latest c.check_bounds-checked.ensures ∙ c.in-Accepted.is in
     record {
-      value = whole c.args.self c.args.id c.args.earliest c.args.latest c.amount_of-place.result c.tick_of-from.result c.tick_of-to.result (id_known c.args.self c.args.id c.ranges.id c.is_known.ensures c.if-not-is_known.false) (bounds_read c.args.earliest c.args.latest c.ranges.earliest c.ranges.latest c.check_bounds-checked.ensures ∙ c.in-Accepted.is) (place c.args.id c.ranges.id c.amount_of-place.ensures) (moment c.args.earliest c.ranges.earliest c.tick_of-from.ensures) (moment c.args.latest c.ranges.latest c.tick_of-to.ensures) c.stale_update.ensures.value;
+      value = whole c.args.self c.args.id c.args.earliest c.args.latest c.amount_of-place.result c.tick_of-from.result c.tick_of-to.result is_true found
+          (place c.args.id c.ranges.id c.amount_of-place.ensures)
+          (moment c.args.earliest c.ranges.earliest c.tick_of-from.ensures)
+          (moment c.args.latest c.ranges.latest c.tick_of-to.ensures)
+          c.stale_update.ensures.value;
       sound = c.stale_update.ensures.sound;
     }
