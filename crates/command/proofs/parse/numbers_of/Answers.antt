@@ -1,8 +1,8 @@
 -- `numbers_of` meets its contract: the fields passed are the numbers that the array holds, and the rest says what follows.
 -- Assumes nothing.
-use mathlib.Core.Path.{◌≡◌, refl, sym, ap, ◌∙◌}
+use mathlib.Core.Path.{◌≡◌, sym, ap, ◌∙◌}
 use mathlib.Core.List.{List, [], ◌∷◌, ◌++◌}
-use Prim.Native.Nat.{ℕ, ◌+◌, ◌-◌, ◌≤◌, ◌<◌}
+use Prim.Native.Nat.{ℕ, ◌+◌, ◌-◌, ◌≤◌}
 use native.Mathlib.Omega.{arith}
 use borrow.Author.Rules.{rules}
 use lib.IntN.{ℤ, pos}
@@ -14,7 +14,7 @@ use Rattle.time_table.specs.Held.{Held}
 use Rattle.time_table.proofs.Held.{held_push, held_list}
 use Rattle.command.specs.declared.number.Number.{Number}
 use Rattle.command.specs.Numbers.{number_of}
-use Rattle.command.specs.Grammar.{field_length, fields_from, Values, values_of, before, first_of, numbers_with}
+use Rattle.command.specs.Grammar.{field_length, fields_from, values_of, before, first_of, numbers_with}
 use Rattle.command.proofs.LineFields.{length_within}
 use Rattle.command.proofs.FieldNumbers.{before_one, before_end, too_many, numbers_all, values_next, values_end}
 use Rattle.command.proofs.parse.numbers_of.Goals as goal

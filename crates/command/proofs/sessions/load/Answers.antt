@@ -4,7 +4,6 @@ use mathlib.Core.Path.{ap, ◌∙◌}
 use mir.Facts.{to_z-of_z}
 use Rattle.planner.specs.History.{without_places}
 use Rattle.planner.specs.Loads.{loaded}
-use borrow.Author.Rules.{rules}
 use Rattle.command.proofs.sessions.load.Goals as goal
 
 pub returns : goal.returns

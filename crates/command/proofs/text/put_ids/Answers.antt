@@ -4,7 +4,7 @@ use Prim.Native.Nat.{◌^◌, ◌<◌}
 use mathlib.Core.List.{flat_map}
 use lib.ListN.{get_or}
 use Rattle.time_table.proofs.Held.{held_length}
-use Rattle.command.specs.Text.{id_text, ids_text}
+use Rattle.command.specs.Text.{id_text}
 use Rattle.command.proofs.WrittenText.{written_none, written_length, written_more}
 use Rattle.command.proofs.DecimalDigits.{decimal_short}
 use Rattle.time_table.proofs.Mapped.{flat_take}

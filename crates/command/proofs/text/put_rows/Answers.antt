@@ -6,7 +6,7 @@ use Prim.Native.Nat.{◌<◌}
 use lib.ListN.{length}
 use Rattle.time_table.proofs.Held.{held_length}
 use Rattle.planner.specs.Records.{no_row}
-use Rattle.command.specs.Text.{row_text, rows_text}
+use Rattle.command.specs.Text.{row_text}
 use Rattle.command.proofs.WrittenText.{written_none, written_more}
 use Rattle.time_table.proofs.Mapped.{flat_take}
 use native.Mathlib.Omega.{arith}

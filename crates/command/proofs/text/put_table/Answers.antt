@@ -4,7 +4,6 @@ use Rattle.command.specs.Text.{table_text}
 use Rattle.command.proofs.WrittenText.{written_length, written_more}
 use Rattle.command.proofs.DecimalDigits.{decimal_short}
 use Rattle.command.proofs.TextLengths.{count_length}
-use borrow.Author.Rules.{rules}
 use native.Mathlib.Omega.{arith}
 use Rattle.command.proofs.text.put_table.Goals as goal
 
