@@ -67,7 +67,7 @@ module _ (s : Session) (kept : List Job) (held : s.jobs ≡ jobs_with kept) wher
 
 calls_joined : (plan : Plan) (calls more : List Call) → plan_after (plan_after plan calls) more ≡ plan_after plan (calls ++ more)
 calls_joined plan [] more = refl
-calls_joined plan (c ∷ calls) more = calls_joined _ calls more
+calls_joined plan (c ∷ calls) more = calls_joined (plan_after plan (c ∷ [])) calls more
 
 plan_from : (lines : List (List ℕ)) (s : Session) (kept : List Job) → s.jobs ≡ jobs_with kept → (session_after s lines).plan ≡ plan_after s.plan (calls_from kept lines)
 unfolding session_after calls_from

@@ -3,7 +3,6 @@
 use lib.ListN.{take}
 use Rattle.time_table.proofs.Held.{held_push, held_length}
 use Rattle.command.proofs.LineBytes.{grown_more, grown_full}
-use borrow.Author.Rules.{rules}
 use native.Mathlib.Omega.{arith}
 use Rattle.command.proofs.lines.push.Goals as goal
 

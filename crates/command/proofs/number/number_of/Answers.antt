@@ -10,7 +10,6 @@ use lib.ListN.{length, drop, get_or, length-drop}
 use lib.Seq.{take_all}
 use Rattle.command.specs.declared.number.Number.{Number}
 use Rattle.command.specs.Numbers.{signed_of, number_of}
-use borrow.Author.Rules.{rules}
 use Rattle.command.proofs.number.number_of.Goals as goal
 
 -- a field: without bytes, with a minus in front, and without one

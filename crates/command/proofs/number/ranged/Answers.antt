@@ -8,7 +8,6 @@ use mir.Syntax.{w32, w64}
 use mir.Val.{SFits, to_z}
 use mir.Facts.{to_z-of_z}
 use Rattle.command.proofs.NumberSigns.{nothing_less, mag_minus}
-use borrow.Author.Rules.{rules}
 use native.Mathlib.Omega.{arith}
 use Rattle.command.proofs.number.ranged.Goals as goal
 

@@ -2,7 +2,6 @@
 -- Assumes nothing.
 use borrow.Author.Tests.{le-leb, lt-leb}
 use Rattle.command.specs.Numbers.{signed_of}
-use borrow.Author.Rules.{rules}
 use native.Mathlib.Omega.{arith}
 use Rattle.command.proofs.number.signed.Goals as goal
 
@@ -20,9 +19,9 @@ magnitude_of-found-requires c = omega (arith, c.if-digits-gt-DIGITS.false)
 pub returns-in-Is : goal.returns-in-Is
 unfolding signed_of
 returns-in-Is c =
-    rw (le-leb _ _ c.if-digits-lt1.false, le-leb _ _ c.if-digits-gt-DIGITS.false, ← c.magnitude_of-found.ensures, c.found-1.given.1) c.ranged.ensures
+    rw (le-leb _ _ c.if-digits-lt1.false, le-leb _ _ c.if-digits-gt-DIGITS.false, ← c.magnitude_of-found.ensures, c.in-Is.is) c.ranged.ensures
 
 pub returns-in-Bad : goal.returns-in-Bad
 unfolding signed_of
 returns-in-Bad c =
-    rw (le-leb _ _ c.if-digits-lt1.false, le-leb _ _ c.if-digits-gt-DIGITS.false, ← c.magnitude_of-found.ensures, c.enum_told-1.given.1)
+    rw (le-leb _ _ c.if-digits-lt1.false, le-leb _ _ c.if-digits-gt-DIGITS.false, ← c.magnitude_of-found.ensures, c.in-Bad.is)

@@ -1,9 +1,6 @@
 -- `field_end` meets its contract: the bytes passed are no spaces, so the field is as long as they are many and the rest says.
 -- Assumes nothing.
-use mathlib.Core.Path.{◌≡◌, refl}
-use Prim.Native.Nat.{◌+◌, ◌-◌, ◌≤◌}
-use lib.ListN.{length, drop}
-use Rattle.command.specs.Grammar.{field_length}
+use mathlib.Core.Path.{refl}
 use Rattle.command.proofs.LineFields.{length_here, length_further, length_end}
 use native.Mathlib.Omega.{arith}
 use Rattle.command.proofs.parse.field_end.Goals as goal

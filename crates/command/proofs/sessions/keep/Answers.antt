@@ -1,7 +1,6 @@
 -- `keep` meets its contract: where there is room the job is kept, and else the jobs stay.
 -- Assumes nothing.
 use borrow.Author.Tests.{lt-ltb, le-ltb}
-use borrow.Author.Rules.{rules}
 use Rattle.command.proofs.sessions.keep.Goals as goal
 
 pub returns-then-jobs-lt-JOBS : goal.returns-then-jobs-lt-JOBS

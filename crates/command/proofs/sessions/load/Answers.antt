@@ -4,9 +4,8 @@ use mathlib.Core.Path.{ap, ◌∙◌}
 use mir.Facts.{to_z-of_z}
 use Rattle.planner.specs.History.{without_places}
 use Rattle.planner.specs.Loads.{loaded}
-use borrow.Author.Rules.{rules}
 use Rattle.command.proofs.sessions.load.Goals as goal
 
 pub returns : goal.returns
 returns c =
-    record { value = ap without_places (c.load-loaded.ensures.0 ∙ ap (loaded c.args.plan c.args.jobs) (to_z-of_z c.ranges.capacity)); sound = c.load-loaded.ensures.1 }
+    record { value = ap without_places (c.load-loaded.ensures.value ∙ ap (loaded c.args.plan c.args.jobs) (to_z-of_z c.ranges.capacity)); sound = c.load-loaded.ensures.sound }

@@ -2,6 +2,7 @@
 -- Assumes nothing.
 use mathlib.Core.Path.{◌≡◌, sym, ap, ◌∙◌, subst}
 use mir.Syntax.{w32}
+use mir.Val.{SFits}
 use mir.Facts.{to_z-of_z}
 use borrow.Author.Tests.{lt-ltb, le-ltb}
 use Rattle.planner.specs.Shown.{Shown}
@@ -18,38 +19,36 @@ use Rattle.command.proofs.sessions.tell.Goals as goal
 pub returns-then-kept-lt-JOBS : goal.returns-then-kept-lt-JOBS
 unfolding told
 returns-then-kept-lt-JOBS c =
-    rw (c.enum_told-1.given.1, lt-ltb c.args.kept 32 c.if-kept-lt-JOBS.true) (written_none _ _ (omega (arith, c.requires.longest_in_bounds)))
+    rw (c.in-Keep.is, lt-ltb c.args.kept 32 c.if-kept-lt-JOBS.true) (written_none _ _ (omega (arith, c.requires.longest_in_bounds)))
 
-pub put_table-requires : goal.put_table-requires
-put_table-requires c =
-    record { shown = subst (λ (x : Rows). Shown x) (sym c.rows-shown.ensures) (shown_rows_lem c.args.plan c.requires.sound); longest_in_bounds = omega (arith, c.requires.longest_in_bounds) }
+pub put_table-requires-clause-shown : goal.put_table-requires-clause-shown
+put_table-requires-clause-shown c = subst (λ (x : Rows). Shown x) (sym c.rows-shown.ensures) (shown_rows_lem c.args.plan c.requires.sound)
 
 pub returns-else-kept-lt-JOBS : goal.returns-else-kept-lt-JOBS
 unfolding told
 returns-else-kept-lt-JOBS c =
-    rw (c.enum_told-1.given.1, le-ltb c.args.kept 32 c.if-kept-lt-JOBS.false) c.put_refusal.ensures
+    rw (c.in-Keep.is, le-ltb c.args.kept 32 c.if-kept-lt-JOBS.false) c.put_refusal.ensures
 
 pub returns-in-Load : goal.returns-in-Load
 unfolding told
-returns-in-Load c = rw c.enum_told-in-Load-1.given.1 (written_none _ _ (omega (arith, c.requires.longest_in_bounds)))
+returns-in-Load c = rw c.in-Load.is (written_none _ _ (omega (arith, c.requires.longest_in_bounds)))
 
 pub returns-in-Update : goal.returns-in-Update
 unfolding told
-returns-in-Update c = rw c.enum_told-in-Update-1.given.1 (written_none _ _ (omega (arith, c.requires.longest_in_bounds)))
+returns-in-Update c = rw c.in-Update.is (written_none _ _ (omega (arith, c.requires.longest_in_bounds)))
 
 pub returns-in-Fit : goal.returns-in-Fit
 unfolding told
 returns-in-Fit c =
-    let z = c.command-1.given.0.0 in
-    let plan = c.args.plan in
-    let found : c.first_fit-found.result ≡ fit_of plan z = c.first_fit-found.ensures ∙ ap (fit_of plan) (to_z-of_z {w = w32} {z = z} (record { sfits = c.known_told-1.given.0.1 })) in
-    rw c.command-1.given.1 (written_as c.put_fit.ensures (ap fit_text found))
+    let fits : SFits w32 c.in-Fit.id = search rules in
+    let found : c.first_fit-found.result ≡ fit_of c.args.plan c.in-Fit.id = c.first_fit-found.ensures ∙ ap (fit_of c.args.plan) (to_z-of_z fits) in
+    rw c.in-Fit.is (written_as c.put_fit.ensures (ap fit_text found))
 
 pub returns-in-Rows : goal.returns-in-Rows
 unfolding told
 returns-in-Rows c =
-    rw c.enum_told-in-Rows-1.given.1 (written_as c.put_table.ensures (ap table_text c.rows-shown.ensures))
+    rw c.in-Rows.is (written_as c.put_table.ensures (ap table_text c.rows-shown.ensures))
 
 pub returns-in-Unreadable : goal.returns-in-Unreadable
 unfolding told
-returns-in-Unreadable c = rw c.enum_told-in-Unreadable-1.given.1 c.put_refusal-in-Unreadable.ensures
+returns-in-Unreadable c = rw c.in-Unreadable.is c.put_refusal-in-Unreadable.ensures

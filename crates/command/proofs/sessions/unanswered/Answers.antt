@@ -1,7 +1,6 @@
 -- `unanswered` meets its contract: the plan is the one given, and its row the record of nothing.
 -- Assumes nothing.
 use Rattle.planner.specs.declared.Answer.TheVariants.{Fits}
-use borrow.Author.Rules.{rules}
 use Rattle.command.proofs.sessions.unanswered.Goals as goal
 
 pub returns : goal.returns

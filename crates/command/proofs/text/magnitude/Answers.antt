@@ -7,7 +7,6 @@ use mir.Val.{SFits, to_z, of_z}
 use mir.Facts.{to_z-of_z}
 use lib.Signed.{nat_abs-le}
 use Rattle.command.proofs.NumberSigns.{less_nothing, not_less}
-use borrow.Author.Rules.{rules}
 use native.Mathlib.Omega.{arith}
 use Rattle.command.proofs.text.magnitude.Goals as goal
 

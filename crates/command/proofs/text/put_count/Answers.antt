@@ -3,7 +3,6 @@
 use Rattle.command.specs.Text.{count_text}
 use Rattle.command.proofs.WrittenText.{written_length, written_more}
 use Rattle.command.proofs.TextLengths.{count_length}
-use borrow.Author.Rules.{rules}
 use native.Mathlib.Omega.{arith}
 use Rattle.command.proofs.text.put_count.Goals as goal
 

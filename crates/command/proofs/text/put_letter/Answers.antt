@@ -1,7 +1,6 @@
 -- `put_letter` meets its contract: the letter, and then the line feed.
 -- Assumes nothing.
 use Rattle.command.proofs.WrittenText.{written_more}
-use borrow.Author.Rules.{rules}
 use Rattle.command.proofs.text.put_letter.Goals as goal
 
 pub returns : goal.returns

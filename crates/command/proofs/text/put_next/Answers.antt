@@ -1,7 +1,6 @@
 -- `put_next` meets its contract: the space, and then the number.
 -- Assumes nothing.
 use Rattle.command.proofs.WrittenText.{written_more}
-use borrow.Author.Rules.{rules}
 use Rattle.command.proofs.text.put_next.Goals as goal
 
 pub returns : goal.returns

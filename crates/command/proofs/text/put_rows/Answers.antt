@@ -2,48 +2,32 @@
 -- Assumes nothing.
 use mathlib.Core.Path.{◌≡◌}
 use mathlib.Core.List.{flat_map}
-use Prim.Native.Nat.{◌-◌, ◌+◌, ◌*◌, ◌≤◌, ◌<◌}
-use lib.ListN.{length, take}
+use Prim.Native.Nat.{◌<◌}
+use lib.ListN.{length}
 use Rattle.time_table.proofs.Held.{held_length}
 use Rattle.planner.specs.Records.{no_row}
-use Rattle.command.specs.Text.{row_text, rows_text}
-use Rattle.command.specs.Written.{Written}
-use Rattle.command.proofs.WrittenText.{written_none, written_length, written_more}
+use Rattle.command.specs.Text.{row_text}
+use Rattle.command.proofs.WrittenText.{written_none, written_more}
 use Rattle.time_table.proofs.Mapped.{flat_take}
-use borrow.Author.Rules.{rules}
 use native.Mathlib.Omega.{arith}
 use Rattle.command.proofs.text.put_rows.Goals as goal
-
-inside : (c : goal.In-loop-i → c.loop-i.i < length c.args.t3.rows
-inside c =
-    omega (arith, c.loop-i-test.true, c.requires.shown.held.fits, held_length c.requires.shown.held)
 
 pub loop-i-init : goal.loop-i-init
 unfolding flat_map
 loop-i-init c = (omega arith, omega arith, written_none _ _ (omega (arith, c.requires.rows_room_in_bounds)))
 
-pub put_row-at-requires : goal.put_row-at-requires
-put_row-at-requires c =
-    record { held_ids = c.requires.shown.ids no_row c.loop-i.i (omega (arith, c.loop-i-test.true)); row_room_in_bounds = omega (arith, c.loop-i-test.true, c.requires.shown.held.fits, c.requires.rows_room_in_bounds, c.loop-i.invariant.1, written_length c.loop-i.invariant.2) }
-
-pub overflow_add-i : goal.overflow_add-i
-overflow_add-i c = omega arith
-
-pub loop-i-smaller : goal.loop-i-smaller
-loop-i-smaller c = omega arith
-
 pub loop-i-preserved : goal.loop-i-preserved
 loop-i-preserved c =
-    (
+    let inside : c.loop-i.i < length c.args.rows.rows = omega (arith, c.loop-i-test.true, c.requires.shown.held.fits, held_length c.requires.shown.held) in (
       omega (arith, c.loop-i-test.true),
       omega (arith, c.put_row-at.ensures.upper_bound, c.loop-i.invariant.1),
-      rw (flat_take row_text c.args.t3.rows c.loop-i.i no_row (inside c.before.before.before.before.before)) (written_more c.loop-i.invariant.2 c.put_row-at.ensures.written),
+      rw (flat_take row_text c.args.rows.rows c.loop-i.i no_row inside) (written_more c.loop-i.invariant.2 c.put_row-at.ensures.written),
     )
-
-pub shape_of-out : goal.shape_of-out
-shape_of-out c = written_length c.loop-i.invariant.2
 
 pub returns : goal.returns
 returns c =
-    let end : c.loop-i.i ≡ c.args.t3.count = omega (arith, c.loop-i.invariant.0, c.loop-i-test.false) in
-    record { written = rw end at c.loop-i.invariant.2; upper_bound = omega (arith, c.requires.shown.held.fits, c.loop-i.invariant.0, c.loop-i.invariant.1, c.loop-i-test.false) }
+    let end : c.loop-i.i ≡ c.args.rows.count = omega (arith, c.loop-i.invariant.0, c.loop-i-test.false) in
+    record {
+      written = rw end at c.loop-i.invariant.2;
+      upper_bound = omega (arith, c.requires.shown.held.fits, c.loop-i.invariant.0, c.loop-i.invariant.1, c.loop-i-test.false);
+    }

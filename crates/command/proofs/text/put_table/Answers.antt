@@ -4,7 +4,6 @@ use Rattle.command.specs.Text.{table_text}
 use Rattle.command.proofs.WrittenText.{written_length, written_more}
 use Rattle.command.proofs.DecimalDigits.{decimal_short}
 use Rattle.command.proofs.TextLengths.{count_length}
-use borrow.Author.Rules.{rules}
 use native.Mathlib.Omega.{arith}
 use Rattle.command.proofs.text.put_table.Goals as goal
 
@@ -34,8 +33,8 @@ put_refusal-requires c = omega (arith, c.requires.longest_in_bounds)
 pub returns-in-Accepted : goal.returns-in-Accepted
 unfolding table_text
 returns-in-Accepted c =
-    rw c.enum_told-1.given.1 (written_more c.put_rows-next.ensures.written (rw c.row_count.ensures at c.put_count.ensures))
+    rw c.in-Accepted.is (written_more c.put_rows-next.ensures.written (rw c.row_count.ensures at c.put_count.ensures))
 
 pub returns-in-Refused : goal.returns-in-Refused
 unfolding table_text
-returns-in-Refused c = rw c.answer-1.given.1 c.put_refusal.ensures
+returns-in-Refused c = rw c.in-Refused.is c.put_refusal.ensures

@@ -1,6 +1,5 @@
 -- `row_count` meets its contract: a count of rows fits.
 -- Assumes nothing.
-use borrow.Author.Rules.{rules}
 use native.Mathlib.Omega.{arith}
 use Rattle.command.proofs.text.row_count.Goals as goal
 
