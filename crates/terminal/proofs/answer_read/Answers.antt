@@ -23,7 +23,7 @@ above (negsuc n) least other = absurd (true≢false least)
 
 pub returns-then-got-lt0 : goal.returns-then-got-lt0
 returns-then-got-lt0 g c =
-    rw c.ended.ensures (FollowsRead.failed (ap (λ (z : ℤ). lt_z z (pos 0)) (sym (to_z-of_z c.ranges.got)) ∙ c.if-got-lt0.true) refl refl refl, c.requires.ready_state)
+    rw c.ended.ensures (record { follows_read = FollowsRead.failed (ap (λ (z : ℤ). lt_z z (pos 0)) (sym (to_z-of_z c.ranges.got)) ∙ c.if-got-lt0.true) refl refl refl; ready_state_2 = c.requires.ready_state })
 
 pub returns-then-got-eq0 : goal.returns-then-got-eq0
 returns-then-got-eq0 g c =

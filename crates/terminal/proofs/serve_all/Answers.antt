@@ -13,7 +13,7 @@ use native.Mathlib.Omega.{arith}
 use Rattle.terminal.proofs.serve_all.Goals as goal
 
 pub returns-then-not-written : goal.returns-then-not-written
-returns-then-not-written g c = rw c.ended.ensures (BytesAnswered.unwritten refl refl, c.serve-served.ensures.ready_state_2)
+returns-then-not-written g c = rw c.ended.ensures (record { bytes_answered = BytesAnswered.unwritten refl refl; ready_state_2 = c.serve-served.ensures.ready_state_2 })
 
 pub loop-at-smaller : goal.loop-at-smaller
 loop-at-smaller g c =

@@ -24,18 +24,18 @@ pub returns-then-not-begun : goal.returns-then-not-begun
 unfolding state_after
 returns-then-not-begun g c =
     let s = c.args.state in
-    let none = sym c.begun.ensures ∙ not-true c.begun.result c.if-not-begun.true in
-    rw c.ended.ensures (InputEnded.over refl refl (ap (λ (feed : Bool). state_after s (cond feed (10 ∷ []) [])) (sym none)), c.requires.ready_state)
+    let none = sym c.begun.ensures ∙ c.if-not-begun.true in
+    rw c.ended.ensures (record { input_ended = InputEnded.over refl refl (ap (λ (feed : Bool). state_after s (cond feed (10 ∷ []) [])) (sym none)); ready_state_2 = c.requires.ready_state })
 
 pub returns-then-not-last : goal.returns-then-not-last
 returns-then-not-last g c =
-    record { input_ended = stopped c.serve_all-last.ensures.bytes_answered (not-true c.serve_all-last.result.more c.if-not-last.true); ready_state_2 = c.serve_all-last.ensures.ready_state_2 }
+    record { input_ended = stopped c.serve_all-last.ensures.bytes_answered c.if-not-last.true; ready_state_2 = c.serve_all-last.ensures.ready_state_2 }
 
 pub returns : goal.returns
 returns g c =
     let s = c.args.state in
-    let some = sym c.begun.ensures ∙ not-false c.begun.result c.if-not-begun.false in
-    rw c.ended-2.ensures (
-      InputEnded.over refl refl (went_on c.serve_all-last.ensures.bytes_answered (not-false c.serve_all-last.result.more c.if-not-last.false) ∙ ap (λ (feed : Bool). state_after s (cond feed (10 ∷ []) [])) (sym some)),
-      c.serve_all-last.ensures.ready_state_2,
-    )
+    let some = sym c.begun.ensures ∙ c.if-not-begun.false in
+    rw c.ended-2.ensures (record {
+      input_ended = InputEnded.over refl refl (went_on c.serve_all-last.ensures.bytes_answered c.if-not-last.false ∙ ap (λ (feed : Bool). state_after s (cond feed (10 ∷ []) [])) (sym some));
+      ready_state_2 = c.serve_all-last.ensures.ready_state_2;
+    })
