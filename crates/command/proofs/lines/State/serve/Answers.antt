@@ -139,7 +139,7 @@ returns c =
       serves =
           serving_done v same
           (elim c.loop-at-test.branch [
-            then-loop-at-test+else-used-out w ↦ serving_full v (omega (arith, w.if-used-out.false, written_length v.wrote))
+            | then-loop-at-test+else-used-out w ↦ serving_full v (omega (arith, w.if-used-out.false, written_length v.wrote))
             | else-loop-at-test w ↦ serving_over v w.loop-at-test.false
           ]);
       ready_state_2 = record { session = v.ready; reader = v.held };
