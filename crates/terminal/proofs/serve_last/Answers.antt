@@ -29,13 +29,13 @@ returns-then-not-begun g c =
 
 pub returns-then-not-last : goal.returns-then-not-last
 returns-then-not-last g c =
-    record { input_ended = stopped c.serve_all-last.ensures.bytes_answered c.if-not-last.true; ready_state_2 = c.serve_all-last.ensures.ready_state_2 }
+    record { input_ended = stopped c.serve_all-last.ensures.bytes_answered (not-true c.serve_all-last.result.more c.if-not-last.true); ready_state_2 = c.serve_all-last.ensures.ready_state_2 }
 
 pub returns : goal.returns
 returns g c =
     let s = c.args.state in
     let some = sym c.begun.ensures ∙ c.if-not-begun.false in
     rw c.ended-2.ensures (record {
-      input_ended = InputEnded.over refl refl (went_on c.serve_all-last.ensures.bytes_answered c.if-not-last.false ∙ ap (λ (feed : Bool). state_after s (cond feed (10 ∷ []) [])) (sym some));
+      input_ended = InputEnded.over refl refl (went_on c.serve_all-last.ensures.bytes_answered (not-false c.serve_all-last.result.more c.if-not-last.false) ∙ ap (λ (feed : Bool). state_after s (cond feed (10 ∷ []) [])) (sym some));
       ready_state_2 = c.serve_all-last.ensures.ready_state_2;
     })
