@@ -6,6 +6,6 @@ cd "$(dirname "$0")"
 . ./need.sh
 need rt
 rm -f target/bin/pass_planner
-rt run pass_planner </dev/null
+(cd crates/pass_planner && rt run </dev/null)
 mkdir -p target/bin
 cp crates/pass_planner/out/pass_planner target/bin/pass_planner
