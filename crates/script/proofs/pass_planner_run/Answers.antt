@@ -1,13 +1,16 @@
 -- `pass_planner_run` meets its contract. The invariant: what the run writes is what is written so far, and then the answers to the rest of the script.
 -- Assumes nothing.
 use mathlib.Core.Path.{◌≡◌, refl, sym, ap, ◌∙◌, subst}
-use mathlib.Core.List.{List}
-use mathlib.Core.Logic.{⊎_elim}
+use mathlib.Core.List.{List, [], ◌∷◌}
+use mathlib.Core.Logic.{inl, inr}
+use denote.Enum.Declared.{tag_of}
+use types.Run.{OneOf}
 use Prim.Native.Nat.{◌+◌, ◌-◌, ◌≤◌}
 use lib.IntN.{ℤ}
 use lib.ListN.{length, drop, drop_of_length-le}
 use mir.Syntax.{w32}
 use mir.Facts.{to_z-of_z}
+use Rattle.planner.specs.declared.Job.{Job}
 use Rattle.planner.specs.declared.Updated.{Updated}
 use Rattle.planner.specs.History.{without_places}
 use Rattle.planner.specs.Loads.{loaded}
@@ -15,6 +18,8 @@ use Rattle.planner.specs.Updates.{updated}
 use Rattle.planner.specs.Sound.{Sound}
 use Rattle.script.specs.declared.Command.TheVariants.{Change, Ask}
 use Rattle.script.specs.declared.Ask as ask
+use Rattle.script.specs.declared.Ask.TheVariants.{Keep, FirstFit, Rows, Unreadable}
+use Rattle.script.specs.contracts.Ask.{the_type}
 use Rattle.script.specs.declared.Change.TheVariants.{Load, Update}
 use Rattle.script.specs.AnswerNumbers.{answer_numbers, ask_numbers}
 use Rattle.script.specs.Pages.{Page, page_of, puts}
@@ -55,6 +60,13 @@ asked c is again stands wrote keeps =
       sound = subst (λ (u : Updated). Sound u.plan) (sym stands) c.loop-at.invariant.1;
     }
 
+-- a command that is not `Keep` has one of the other tags
+other_tag : (a : ask.Ask) → ((job : Job) → a ≡ Keep job → ⊥) → OneOf (1 ∷ 2 ∷ 3 ∷ []) (tag_of the_type a)
+other_tag (Keep job) other = absurd (other job refl)
+other_tag (FirstFit id) other = inl refl
+other_tag Rows other = inr (inl refl)
+other_tag Unreadable other = inr (inr refl)
+
 -- the ways: a load, an update, a job that is kept, a job too many, and any other command that leaves the plan as it is
 joined : (c : goal.After-arguments_of) → Joined c
 joined c =
@@ -63,15 +75,42 @@ joined c =
     let jobs = c.loop-at.jobs in
     elim c.match-command.branch [
       in-Change+in-Load w ↦
-        let a = w.in-Change in let b = w.in-Load in let d = w.command-is in let e = w.load-state in ?
-    | in-Change+in-Update w ↦ 
-        let a = w.in-Change in let b = w.in-Update in let d = w.command-is in let e = w.update-state in ?
+        let z = w.in-Load.capacity in
+        let led : w.load-state.result ≡ called plan jobs (Load z) =
+        w.load-state.ensures.value ∙ ap (λ (x : ℤ). without_places (loaded plan jobs x)) (to_z-of_z {w = w32} {z = z} (record { sfits = search rules })) in
+        record {
+          found = Change (Load z);
+          is = w.in-Change.is ∙ ap Change w.in-Load.is;
+          again = w.command-is ∙ ap Change w.in-Load.is;
+          wrote = (λ i. page_of (w.answers-is i) (w.written-is i)) ∙ w.put_answer-written.ensures ∙ ap (λ (u : Updated). puts page (answer_numbers u.answer u.row)) led;
+          led = ap (λ (u : Updated). u.plan) (w.state-is ∙ led);
+          keeps = w.jobs-is ∙ w.empty-jobs-in-Load.ensures;
+          sound = subst (λ (u : Updated). Sound u.plan) (sym w.state-is) w.load-state.ensures.sound;
+        }
+    | in-Change+in-Update w ↦
+        let z = w.in-Update in
+        let led : w.update-state.result ≡ called plan jobs (Update z.id z.earliest z.latest) =
+        w.update-state.ensures.value
+        ∙ (λ i.
+        updated plan
+        (to_z-of_z {w = w32} {z = z.id} (record { sfits = search rules }) i)
+        (to_z-of_z {w = w32} {z = z.earliest} (record { sfits = search rules }) i)
+        (to_z-of_z {w = w32} {z = z.latest} (record { sfits = search rules }) i)) in
+        record {
+          found = Change (Update z.id z.earliest z.latest);
+          is = w.in-Change.is ∙ ap Change z.is;
+          again = w.command-is ∙ ap Change z.is;
+          wrote = (λ i. page_of (w.answers-is i) (w.written-is i)) ∙ w.put_answer-written-in-Update.ensures ∙ ap (λ (u : Updated). puts page (answer_numbers u.answer u.row)) led;
+          led = ap (λ (u : Updated). u.plan) (w.state-is ∙ led);
+          keeps = w.jobs-is;
+          sound = subst (λ (u : Updated). Sound u.plan) (sym w.state-is) w.update-state.ensures.sound;
+        }
     | in-Ask+in-Keep+then-n-lt-JOBS w ↦
-        let a = w.in-Ask in let b = w.in-Keep in let d = w.jobs-is in let e = w.state-is in ?
+        asked c w.in-Ask.is w.command-is w.state-is ((λ i. page_of (w.answers-is i) (w.written-is i)) ∙ w.put_ask-written.ensures) (w.jobs-is ∙ kept_more jobs _ w.in-Keep.is w.if-n-lt-JOBS.true (omega arith))
     | in-Ask+in-Keep+else-n-lt-JOBS w ↦
-        let a = w.in-Ask in let b = w.in-Keep in let d = w.jobs-is in let e = w.state-is in ?
+        asked c w.in-Ask.is w.command-is w.state-is ((λ i. page_of (w.answers-is i) (w.written-is i)) ∙ w.put_ask-written.ensures) (w.jobs-is ∙ kept_full jobs _ w.in-Keep.is w.if-n-lt-JOBS.false)
     | in-Ask+in_default w ↦
-        let a = w.in-Ask in let b = w.in_default in let d = w.jobs-is in let e = w.state-is in ?
+        asked c w.in-Ask.is w.command-is w.state-is ((λ i. page_of (w.answers-is i) (w.written-is i)) ∙ w.put_ask-written.ensures) (w.jobs-is ∙ kept_same jobs _ (other_tag _ w.in_default.not-Keep))
     ]
 
 -- the numbers that the command takes are all there
