@@ -74,43 +74,43 @@ joined c =
     let plan = c.loop-at.state.plan in
     let jobs = c.loop-at.jobs in
     elim c.match-command.branch [
-      in-Change+in-Load w ↦
-        let z = w.in-Load.capacity in
-        let led : w.load-state.result ≡ called plan jobs (Load z) =
-        w.load-state.ensures.value ∙ ap (λ (x : ℤ). without_places (loaded plan jobs x)) (to_z-of_z {w = w32} {z = z} (record { sfits = search rules })) in
-        record {
-          found = Change (Load z);
-          is = w.in-Change.is ∙ ap Change w.in-Load.is;
-          again = w.command-is ∙ ap Change w.in-Load.is;
-          wrote = (λ i. page_of (w.answers-is i) (w.written-is i)) ∙ w.put_answer-written.ensures ∙ ap (λ (u : Updated). puts page (answer_numbers u.answer u.row)) led;
-          led = ap (λ (u : Updated). u.plan) (w.state-is ∙ led);
-          keeps = w.jobs-is ∙ w.empty-jobs-in-Load.ensures;
-          sound = subst (λ (u : Updated). Sound u.plan) (sym w.state-is) w.load-state.ensures.sound;
-        }
-    | in-Change+in-Update w ↦
-        let z = w.in-Update in
-        let led : w.update-state.result ≡ called plan jobs (Update z.id z.earliest z.latest) =
-        w.update-state.ensures.value
-        ∙ (λ i.
-        updated plan
-        (to_z-of_z {w = w32} {z = z.id} (record { sfits = search rules }) i)
-        (to_z-of_z {w = w32} {z = z.earliest} (record { sfits = search rules }) i)
-        (to_z-of_z {w = w32} {z = z.latest} (record { sfits = search rules }) i)) in
-        record {
-          found = Change (Update z.id z.earliest z.latest);
-          is = w.in-Change.is ∙ ap Change z.is;
-          again = w.command-is ∙ ap Change z.is;
-          wrote = (λ i. page_of (w.answers-is i) (w.written-is i)) ∙ w.put_answer-written-in-Update.ensures ∙ ap (λ (u : Updated). puts page (answer_numbers u.answer u.row)) led;
-          led = ap (λ (u : Updated). u.plan) (w.state-is ∙ led);
-          keeps = w.jobs-is;
-          sound = subst (λ (u : Updated). Sound u.plan) (sym w.state-is) w.update-state.ensures.sound;
-        }
-    | in-Ask+in-Keep+then-n-lt-JOBS w ↦
-        asked c w.in-Ask.is w.command-is w.state-is ((λ i. page_of (w.answers-is i) (w.written-is i)) ∙ w.put_ask-written.ensures) (w.jobs-is ∙ kept_more jobs _ w.in-Keep.is w.if-n-lt-JOBS.true (omega arith))
-    | in-Ask+in-Keep+else-n-lt-JOBS w ↦
-        asked c w.in-Ask.is w.command-is w.state-is ((λ i. page_of (w.answers-is i) (w.written-is i)) ∙ w.put_ask-written.ensures) (w.jobs-is ∙ kept_full jobs _ w.in-Keep.is w.if-n-lt-JOBS.false)
-    | in-Ask+in_default w ↦
-        asked c w.in-Ask.is w.command-is w.state-is ((λ i. page_of (w.answers-is i) (w.written-is i)) ∙ w.put_ask-written.ensures) (w.jobs-is ∙ kept_same jobs _ (other_tag _ w.in_default.not-Keep))
+      | in-Change+in-Load w ↦
+          let z = w.in-Load.capacity in
+          let led : w.load-state.result ≡ called plan jobs (Load z) =
+          w.load-state.ensures.value ∙ ap (λ (x : ℤ). without_places (loaded plan jobs x)) (to_z-of_z {w = w32} {z = z} (record { sfits = search rules })) in
+          record {
+            found = Change (Load z);
+            is = w.in-Change.is ∙ ap Change w.in-Load.is;
+            again = w.command-is ∙ ap Change w.in-Load.is;
+            wrote = (λ i. page_of (w.answers-is i) (w.written-is i)) ∙ w.put_answer-written.ensures ∙ ap (λ (u : Updated). puts page (answer_numbers u.answer u.row)) led;
+            led = ap (λ (u : Updated). u.plan) (w.state-is ∙ led);
+            keeps = w.jobs-is ∙ w.empty-jobs-in-Load.ensures;
+            sound = subst (λ (u : Updated). Sound u.plan) (sym w.state-is) w.load-state.ensures.sound;
+          }
+      | in-Change+in-Update w ↦
+          let z = w.in-Update in
+          let led : w.update-state.result ≡ called plan jobs (Update z.id z.earliest z.latest) =
+          w.update-state.ensures.value
+          ∙ (λ i.
+          updated plan
+          (to_z-of_z {w = w32} {z = z.id} (record { sfits = search rules }) i)
+          (to_z-of_z {w = w32} {z = z.earliest} (record { sfits = search rules }) i)
+          (to_z-of_z {w = w32} {z = z.latest} (record { sfits = search rules }) i)) in
+          record {
+            found = Change (Update z.id z.earliest z.latest);
+            is = w.in-Change.is ∙ ap Change z.is;
+            again = w.command-is ∙ ap Change z.is;
+            wrote = (λ i. page_of (w.answers-is i) (w.written-is i)) ∙ w.put_answer-written-in-Update.ensures ∙ ap (λ (u : Updated). puts page (answer_numbers u.answer u.row)) led;
+            led = ap (λ (u : Updated). u.plan) (w.state-is ∙ led);
+            keeps = w.jobs-is;
+            sound = subst (λ (u : Updated). Sound u.plan) (sym w.state-is) w.update-state.ensures.sound;
+          }
+      | in-Ask+in-Keep+then-n-lt-JOBS w ↦
+          asked c w.in-Ask.is w.command-is w.state-is ((λ i. page_of (w.answers-is i) (w.written-is i)) ∙ w.put_ask-written.ensures) (w.jobs-is ∙ kept_more jobs _ w.in-Keep.is w.if-n-lt-JOBS.true (omega arith))
+      | in-Ask+in-Keep+else-n-lt-JOBS w ↦
+          asked c w.in-Ask.is w.command-is w.state-is ((λ i. page_of (w.answers-is i) (w.written-is i)) ∙ w.put_ask-written.ensures) (w.jobs-is ∙ kept_full jobs _ w.in-Keep.is w.if-n-lt-JOBS.false)
+      | in-Ask+in_default w ↦
+          asked c w.in-Ask.is w.command-is w.state-is ((λ i. page_of (w.answers-is i) (w.written-is i)) ∙ w.put_ask-written.ensures) (w.jobs-is ∙ kept_same jobs _ (other_tag _ w.in_default.not-Keep))
     ]
 
 -- the numbers that the command takes are all there
