@@ -7,7 +7,6 @@ use mir.Syntax.{w32}
 use mir.Facts.{to_z-of_z}
 use Rattle.script.specs.Commands.{kind_of, command_of_kind}
 use Rattle.script.proofs.Reading.{command_read}
-use borrow.Author.Rules.{rules}
 use Rattle.script.proofs.parse.command_at.Goals as goal
 
 pub returns : goal.returns
