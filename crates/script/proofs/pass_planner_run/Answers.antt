@@ -25,7 +25,7 @@ use Rattle.script.specs.AnswerNumbers.{answer_numbers, ask_numbers}
 use Rattle.script.specs.Pages.{Page, page_of, puts}
 use Rattle.script.specs.Outcomes.{kept_after, called}
 use Rattle.script.specs.Runs.{answers_of, run}
-use Rattle.script.proofs.Pages.{puts_long, puts_overlaid}
+use Rattle.script.proofs.Pages.{puts_overlaid}
 use Rattle.script.proofs.Keeping.{kept_more, kept_full, kept_same}
 use Rattle.script.proofs.Running.{Answered, step, stays}
 use borrow.Author.Rules.{rules}

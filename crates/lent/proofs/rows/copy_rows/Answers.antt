@@ -5,7 +5,7 @@ use Prim.Native.Nat.{◌≤◌}
 use native.Mathlib.Omega.{arith}
 use lib.ListN.{length}
 use Rattle.planner.proofs.ShownRows.{shown_rows_lem}
-use Rattle.lent.proofs.CopiedSlice.{copied_length, count_places, count_rows}
+use Rattle.lent.proofs.CopiedSlice.{count_places, count_rows}
 use Rattle.lent.proofs.rows.copy_rows.Goals as goal
 
 pub row_at-requires : goal.row_at-requires

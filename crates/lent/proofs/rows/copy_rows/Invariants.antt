@@ -1,7 +1,6 @@
 -- The invariant of `copy_rows`: the first i places hold the first i rows, and the others what they held.
 use mathlib.Core.Path.{◌≡◌}
 use Prim.Native.Nat.{◌-◌, ◌≤◌}
-use lib.ListN.{length}
 use Rattle.lent.specs.Copies.{copied}
 use Rattle.lent.proofs.rows.copy_rows.Given as goal
 

@@ -10,7 +10,6 @@ use mir.Facts.{to_z-of_z}
 use Rattle.script.specs.AnswerNumbers.{capped, each}
 use Rattle.script.specs.Pages.{Page, page_of, puts}
 use Rattle.planner.proofs.ShownRows.{shown_rows_lem}
-use borrow.Author.Rules.{rules}
 use Rattle.script.proofs.answers.put_rows.Goals as goal
 
 pub put_each-requires : goal.put_each-requires
