@@ -6,13 +6,8 @@ cd "$(dirname "$0")"
 . ../need.sh
 need rt cargo "${CC:-cc}"
 target=$(cd .. && pwd -P)/target
-if [ "$(uname -m)" = x86_64 ]; then
-    (cd .. && rt staticlib script)
-    PASS_PLANNER=$target/staticlib/libscript.a
-else
-    PASS_PLANNER=$target/bench/script.o
-    sh ../native.sh script "$PASS_PLANNER"
-fi
+../build_library.sh
+PASS_PLANNER=$target/staticlib/libscript.a
 ${CC:-cc} -std=c99 -D_POSIX_C_SOURCE=200809L -O2 -fno-builtin -Wall -Wextra -Werror -pthread -o "$target/measure" measure.c "$PASS_PLANNER"
 "$target/measure"
 export PASS_PLANNER CARGO_TARGET_DIR="$target/bench"

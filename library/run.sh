@@ -1,29 +1,14 @@
 #!/bin/sh
 # Builds the static library and the C program over it, runs the program, and compares what it prints
-# with `expected`. The library is for x86-64. On another processor clang compiles the program for x86-64,
-# and the kit's C library and emulator run it.
+# with `expected`. The library is for x86-64.
 set -eu
 cd "$(dirname "$0")"
 . ../need.sh
-if [ "$(uname -m)" = x86_64 ]; then need rt "${CC:-cc}"; else need rt clang; fi
-rt staticlib script
-archive=../target/staticlib/libscript.a
+need rt "${CC:-cc}"
+../build_library.sh
 out=../target/library
 mkdir -p "$out"
-words='-std=c99 -O2 -Wall -Wextra -Werror'
-if [ "$(uname -m)" = x86_64 ]; then
-    # shellcheck disable=SC2086
-    ${CC:-cc} $words -o "$out/example" example.c "$archive"
-    "$out/example" >"$out/printed"
-else
-    kit=$(dirname "$(dirname "$(rt doc)")")
-    lib=$kit/toolchain/lib
-    # shellcheck disable=SC2086
-    clang --target=x86_64-linux-gnu $words -fPIE -isystem "/usr/include/$(uname -m)-linux-gnu" -c -o "$out/example.o" example.c
-    "$kit/on/$(uname -m)/toolchain/bin/ld.lld" -pie --dynamic-linker /lib64/ld-linux-x86-64.so.2 -o "$out/example" \
-        "$lib/Scrt1.o" "$lib/crti.o" "$lib/crtbeginS.o" "$out/example.o" "$archive" \
-        "$lib/libc.so.6" "$lib/libc_nonshared.a" "$lib/crtendS.o" "$lib/crtn.o"
-    "$kit/on/$(uname -m)/toolchain/bin/qemu-x86_64" "$lib/ld-linux-x86-64.so.2" --library-path "$lib" "$out/example" >"$out/printed"
-fi
+${CC:-cc} -std=c99 -O2 -Wall -Wextra -Werror -o "$out/example" example.c ../target/staticlib/libscript.a
+"$out/example" >"$out/printed"
 diff expected "$out/printed"
 echo 'library: the C program prints what is expected'

@@ -7,56 +7,45 @@ ghost use Rattle.planner.specs.Sound.{Sound};
 use lent::Copied;
 use lent::rows::copy_rows;
 use planner::{Checked, Job, Jobs, Plan, RowRecord};
-
-// Writes a number after a space.
-fn number(n: u64) {
-    let space = [b' '];
-    io::write_all(1, &space);
-    io::print_decimal(1, n);
-}
+use std::io;
 
 // Writes A and the count or R and the refusal's number, and the heights of three rows.
-fn show(copied: Copied, first: u64, second: u64, third: u64) {
+fn show(rt: &impl Print, copied: Copied, first: u64, second: u64, third: u64) -> io::Result<()> {
     let answer = copied.answer;
     match answer {
         Checked::Accepted => {
-            let letter = [b'A'];
-            io::write_all(1, &letter);
-            number(copied.count as u64);
+            let count = copied.count;
+            print!(rt; "A {count}")?;
         }
         Checked::Refused(why) => {
-            let letter = [b'R'];
-            io::write_all(1, &letter);
-            number(why.number() as u64);
+            let number = why.number();
+            print!(rt; "R {number}")?;
         }
     }
-    number(first);
-    number(second);
-    number(third);
-    let end = [b'\n'];
-    io::write_all(1, &end);
+    println!(rt; " {first} {second} {third}")
 }
 
 // Writes what three places hold, and what the copy to them answered.
-fn show_places(copied: Copied, places: [RowRecord; 3]) {
+fn show_places(rt: &impl Print, copied: Copied, places: [RowRecord; 3]) -> io::Result<()> {
     let first = places[0];
     let second = places[1];
     let third = places[2];
     show(
+        rt,
         copied,
         first.height as u64,
         second.height as u64,
         third.height as u64,
-    );
+    )
 }
 
 // Lends three places to a copy of the plan's rows.
-fn copy_three(plan: Plan, places: [RowRecord; 3])
+fn copy_three(rt: &impl Print, plan: Plan, places: [RowRecord; 3]) -> io::Result<()>
     requires { Sound plan }
 {
     let mut lent = places;
     let copied = copy_rows(plan, &mut lent);
-    show_places(copied, lent)
+    show_places(rt, copied, lent)
 }
 
 // A job that must run from `start` on.
@@ -71,7 +60,7 @@ fn job(start: i32, duration: i32, usage: i32) -> Job {
 
 // Copies no row, one, three and four, and those of a plan that is overloaded, to places that are
 // marked by the height 7.
-fn main() {
+fn main(rt: HostRuntime) -> io::Result<()> {
     let mark = RowRecord {
         start: 0,
         end: 0,
@@ -80,16 +69,16 @@ fn main() {
         count: 0,
     };
     let places = [mark; 3];
-    copy_three(Plan::fresh(), places);
+    copy_three(&rt, Plan::fresh(), places)?;
     let mut jobs = Jobs::empty().keep(job(0, 3, 1));
     let one = Plan::fresh().load(jobs, 5);
-    copy_three(one.plan, places);
+    copy_three(&rt, one.plan, places)?;
     jobs = jobs.keep(job(1, 1, 1));
     let three = Plan::fresh().load(jobs, 5);
-    copy_three(three.plan, places);
+    copy_three(&rt, three.plan, places)?;
     jobs = jobs.keep(job(9, 1, 5));
     let four = Plan::fresh().load(jobs, 5);
-    copy_three(four.plan, places);
+    copy_three(&rt, four.plan, places)?;
     let stale = Plan::fresh().load(jobs, 4);
-    copy_three(stale.plan, places);
+    copy_three(&rt, stale.plan, places)
 }

@@ -130,7 +130,7 @@ module _ {plan : Plan} {before after : List RowRecord} {r : Copied} (kept : Copy
   inside = rw kept.answer (count_places rows places)
 
   other_places : drop r.count after ≡ drop r.count before
-  other_places = ap (drop r.count) kept.slice ∙ copied_others _ r.count _ r.count (omega arith)
+  other_places = ap (drop r.count) kept.slice ∙ copied_others rows.rows r.count before r.count (omega arith)
 
   -- what a caller finds in the slice
   pub copy_places : CopyPlaces (rows_shown plan) before r after

@@ -1,9 +1,4 @@
 pub mod WithoutPlan
-pub mod Locals
-pub mod Tests
-pub mod Lent
-pub mod PlanField
-pub mod LentArray
 pub mod CopiedSlice
 pub mod CopyGiven
 pub mod LentDemand

@@ -13,10 +13,11 @@ pub fn load_in_place(plan: &mut Plan, jobs: Jobs, capacity: i32) -> Placing
 {
     let done = (*plan).load(jobs, capacity);
     *plan = done.plan;
+    let placed = done.placed;
     Placing {
         answer: done.answer,
         row: done.row,
-        placed: done.placed,
+        placed,
     }
 }
 

@@ -37,8 +37,7 @@ pub enum Command {
 
 // Runs a script on a fresh plan, writes the answers as far as there is room, and returns how many
 // numbers were written.
-#[unsafe(no_mangle)]
-pub extern "C" fn pass_planner_run(script: &[i32], answers: &mut [i32]) -> usize
+pub fn pass_planner_run(script: &[i32], answers: &mut [i32]) -> usize
     ensures answers_after { answers.new ≡ overlaid (run script.now) answers.old }
     ensures value { result ≡ min (length (run script.now)) (length answers.old) }
 {

@@ -3,7 +3,6 @@
 use mathlib.Core.Path.{sym}
 use mir.Facts.{to_z-of_z}
 use Rattle.script.proofs.Pages.{put_room, put_full}
-use borrow.Author.Rules.{rules}
 use Rattle.script.proofs.answers.put.Goals as goal
 
 pub returns-then-written-answers : goal.returns-then-written-answers

@@ -4,7 +4,6 @@ use mathlib.Core.Path.{◌∙◌}
 use mathlib.Core.List.{[], ◌∷◌}
 use mir.Facts.{to_z-of_z}
 use Rattle.script.specs.Pages.{page_of, puts}
-use borrow.Author.Rules.{rules}
 use Rattle.script.proofs.answers.put_four.Goals as goal
 
 pub returns : goal.returns

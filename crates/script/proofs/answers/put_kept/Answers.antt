@@ -4,7 +4,6 @@ use mathlib.Core.Path.{refl}
 use borrow.Author.Tests.{lt-ltb, le-ltb}
 use Rattle.script.specs.AnswerNumbers.{keep_numbers}
 use Rattle.script.specs.Pages.{puts}
-use borrow.Author.Rules.{rules}
 use Rattle.script.proofs.answers.put_kept.Goals as goal
 
 pub returns-then-count-lt-JOBS : goal.returns-then-count-lt-JOBS

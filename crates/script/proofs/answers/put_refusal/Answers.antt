@@ -12,7 +12,6 @@ use Rattle.planner.specs.declared.Refusal.{Refusal}
 use Rattle.planner.specs.declared.Refusal.TheVariants.{TooManyJobs, CapacityOutOfRange, BoundOutOfRange, BoundsCrossed, DurationOutOfRange, UsageOutOfRange, UnknownTask, TooManyRows, Stale, ShortSlice, Unreadable}
 use Rattle.planner.specs.Refusals.{number_of}
 use Rattle.script.specs.Pages.{page_of, puts}
-use borrow.Author.Rules.{rules}
 use Rattle.script.proofs.answers.put_refusal.Goals as goal
 
 small : (why : Refusal) → number_of why ≤ 11

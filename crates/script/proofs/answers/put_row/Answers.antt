@@ -19,8 +19,8 @@ returns c =
     ∙ ap (λ (p : Page). puts p ids) c.put_four-next.ensures
     ∙ (λ i.
     puts (page_of c.args.answers.now c.args.written)
-    (to_z-of_z {w = w32} {z = row.start} (record { sfits = c.struct_told-1.given.0.1 }) i
-    ∷ to_z-of_z {w = w32} {z = row.end} (record { sfits = c.struct_told-2-1.given.1.0.1 }) i
-    ∷ (to_z-of_z {w = w32} {z = c.signed-height.result} (record { sfits = c.signed-height.type-inv }) ∙ c.signed-height.ensures) i
-    ∷ (to_z-of_z {w = w32} {z = c.signed-count.result} (record { sfits = c.signed-count.type-inv }) ∙ c.signed-count.ensures) i
+    (to_z-of_z {w = w32} {z = row.start} (record { sfits = search rules }) i
+    ∷ to_z-of_z {w = w32} {z = row.end} (record { sfits = search rules }) i
+    ∷ (to_z-of_z {w = w32} {z = c.signed-height.result} (record { sfits = c.signed-height.type_inv }) ∙ c.signed-height.ensures) i
+    ∷ (to_z-of_z {w = w32} {z = c.signed-count.result} (record { sfits = c.signed-count.type_inv }) ∙ c.signed-count.ensures) i
     ∷ ids))

@@ -10,23 +10,18 @@ use mir.Facts.{to_z-of_z}
 use Rattle.script.specs.AnswerNumbers.{capped, each}
 use Rattle.script.specs.Pages.{Page, page_of, puts}
 use Rattle.planner.proofs.ShownRows.{shown_rows_lem}
-use borrow.Author.Rules.{rules}
 use Rattle.script.proofs.answers.put_rows.Goals as goal
 
 pub put_each-requires : goal.put_each-requires
 put_each-requires c =
     rw c.rows-shown.ensures (shown_rows_lem c.args.plan c.requires)
 
-pub returns-in-Refused : goal.returns-in-Refused
-returns-in-Refused c =
-    rw (sym c.rows-shown.ensures, c.answer-1.given.1) c.put_refusal.ensures
-
 pub returns-in-Accepted : goal.returns-in-Accepted
 unfolding puts
 returns-in-Accepted c =
     let rows = each (take c.rows-shown.result.count c.rows-shown.result.rows) in
     let count = c.signed.ensures ∙ ap capped {y = c.rows-shown.result.count} (omega arith) in
-    rw (sym c.rows-shown.ensures, c.enum_told-1.given.1)
+    rw (sym c.rows-shown.ensures, c.in-Accepted.is)
     (c.put_each.ensures
     ∙ ap (λ (p : Page). puts p rows) c.put_two-next.ensures
-    ∙ (λ i. puts (page_of c.args.answers.now c.args.written) (pos 5 ∷ (to_z-of_z {w = w32} {z = c.signed.result} (record { sfits = c.signed.type-inv }) ∙ count) i ∷ rows)))
+    ∙ (λ i. puts (page_of c.args.answers.now c.args.written) (pos 5 ∷ (to_z-of_z {w = w32} {z = c.signed.result} (record { sfits = c.signed.type_inv }) ∙ count) i ∷ rows)))

@@ -3,7 +3,6 @@
 use mathlib.Core.Path.{◌∙◌}
 use mir.Facts.{to_z-of_z}
 use Rattle.script.specs.Pages.{page_of, put, puts}
-use borrow.Author.Rules.{rules}
 use Rattle.script.proofs.answers.put_two.Goals as goal
 
 pub returns : goal.returns

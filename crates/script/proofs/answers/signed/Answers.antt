@@ -6,7 +6,6 @@ use lib.IntN.{pos}
 use mir.Syntax.{w32}
 use mir.Facts.{to_z-of_z}
 use Rattle.script.specs.AnswerNumbers.{capped}
-use borrow.Author.Rules.{rules}
 use native.Mathlib.Omega.{arith}
 use Rattle.script.proofs.answers.signed.Goals as goal
 

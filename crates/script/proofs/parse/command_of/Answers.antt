@@ -6,7 +6,6 @@ use Rattle.script.specs.declared.Command.TheVariants.{Change, Ask}
 use Rattle.script.specs.declared.Change.TheVariants.{Load, Update}
 use Rattle.script.specs.declared.Ask.TheVariants.{Keep, FirstFit}
 use Rattle.script.specs.Commands.{command_of_kind}
-use borrow.Author.Rules.{rules}
 use Rattle.script.proofs.parse.command_of.Goals as goal
 
 pub returns-then-is_whole : goal.returns-then-is_whole

@@ -3,7 +3,6 @@
 use mathlib.Core.Path.{sym}
 use lib.IntN.{pos}
 use lib.ListN.{get_or-eq_default}
-use borrow.Author.Rules.{rules}
 use Rattle.script.proofs.parse.number_at.Goals as goal
 
 pub returns : goal.returns
