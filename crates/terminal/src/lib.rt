@@ -1,7 +1,7 @@
 // The loop of the programs: commands from standard input, answers to standard output.
 #![tactic(auto)]
 
-ghost use Rattle.std.specs.Prelude.{◌≡◌, false, ◌≤◌, ◌<◌, length, min};
+ghost use Rattle.std.specs.Prelude.{◌≡◌, ◌<◌, ◌≤◌, ◌^◌, false, length, min, pos, negsuc, IfOk, MatchResult};
 ghost use Rattle.command.specs.Text.{longest};
 ghost use Rattle.command.specs.Lines.{ReadyState};
 ghost use Rattle.terminal.specs.Endings.{status_of, Status};
@@ -56,15 +56,19 @@ fn written<R: Print>(rt: &R, answers: &[u8]) -> bool {
     io::writer(rt).write_all(answers).is_ok()
 }
 
-// Reads once, and says how many bytes that gave, or -1 where the read failed.
-fn bytes_read<R: Input>(rt: &R, buffer: &mut [u8]) -> isize {
-    match rt.reader().read(buffer) {
+// What a read gave as one number: how many bytes, or -1 where it failed.
+fn got_of(read: io::Result<usize>) -> isize
+    requires { IfOk read (λ n. n < 2 ^ 63) }
+    ensures { MatchResult read (λ n. result ≡ pos n) (λ why. result ≡ negsuc 0) }
+{
+    match read {
         Ok(n) => n as isize,
         Err(_) => -1,
     }
 }
 
-// Turns what a read gave into a number of the buffer's bytes: 0 where it failed, and never more than there are.
+// Turns what a read gave into a number of the buffer's bytes: 0 where it failed, and never more than
+// there are.
 fn count(got: isize, buffer: &[u8]) -> usize
     ensures { result ≡ clamp_len got (length buffer.now) }
 {
@@ -145,13 +149,13 @@ fn answer_read<R: Print>(rt: &R, state: State, got: isize, buffer: &[u8], out: &
 }
 
 // Reads once, and answers that.
-fn read_some<R: Input + Print>(rt: &R, state: State, out: &mut [u8]) -> Reading
+fn read_some<R: Print, I: Read>(rt: &R, input: &mut I, state: State, out: &mut [u8]) -> Reading
     requires ready_state { ReadyState state }
     requires longest_in_bounds { longest ≤ length out.old }
     ensures { ReadyState result.state }
 {
     let mut buffer = [0u8; 4096];
-    let got = bytes_read(rt, &mut buffer);
+    let got = got_of(input.read(&mut buffer));
     answer_read(rt, state, got, &buffer, out)
 }
 
@@ -169,11 +173,12 @@ fn run<R: Input + Print>(rt: &R, out: &mut [u8]) -> Ending
     requires { longest ≤ length out.old }
     ensures { Status (status_of result) }
 {
+    let mut input = rt.reader();
     let mut state = State::new();
     let mut ending = Ending::Unread;
     let mut turns = u64::MAX;
     while turns > 0 {
-        let reading = read_some(rt, state, out);
+        let reading = read_some(rt, &mut input, state, out);
         state = reading.state;
         ending = reading.ending;
         turns = turns_left(turns, reading.more);
