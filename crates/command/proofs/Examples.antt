@@ -4,9 +4,8 @@ use mathlib.Core.Path.{◌≡◌, refl}
 use mathlib.Core.List.{[], ◌∷◌, map, flat_map}
 use lib.IntN.{pos, negsuc}
 use Rattle.time_table.specs.Held.{pad}
-use Rattle.planner.specs.declared.FirstFit.{FirstFit}
 use Rattle.planner.specs.declared.Refusal.{Refusal}
-use Rattle.command.specs.declared.number.Number.{Number}
+use Rattle.std.specs.Prelude.{Some, None, Ok}
 use Rattle.command.specs.declared.Command.TheVariants.{Keep, Load, Update, Fit, Rows, Unreadable}
 use Rattle.command.specs.Decimal.{digits_in, decimal, signed_text}
 use Rattle.command.specs.Numbers.{is_digit, magnitude_from, signed_of, number_of}
@@ -58,15 +57,15 @@ unfolding command_of fields_of values_of by_letter command_with numbers_taken nu
 too_many = refl
 
 -- the ends of the range: -2147483648 and 2147483647 are numbers, and 2147483648 is none
-least : number_of (45 ∷ 50 ∷ 49 ∷ 52 ∷ 55 ∷ 52 ∷ 56 ∷ 51 ∷ 54 ∷ 52 ∷ 56 ∷ []) ≡ Number.Is (negsuc 2147483647)
+least : number_of (45 ∷ 50 ∷ 49 ∷ 52 ∷ 55 ∷ 52 ∷ 56 ∷ 51 ∷ 54 ∷ 52 ∷ 56 ∷ []) ≡ Some (negsuc 2147483647)
 unfolding number_of signed_of magnitude_from is_digit
 least = refl
 
-greatest : number_of (50 ∷ 49 ∷ 52 ∷ 55 ∷ 52 ∷ 56 ∷ 51 ∷ 54 ∷ 52 ∷ 55 ∷ []) ≡ Number.Is (pos 2147483647)
+greatest : number_of (50 ∷ 49 ∷ 52 ∷ 55 ∷ 52 ∷ 56 ∷ 51 ∷ 54 ∷ 52 ∷ 55 ∷ []) ≡ Some (pos 2147483647)
 unfolding number_of signed_of magnitude_from is_digit
 greatest = refl
 
-past : number_of (50 ∷ 49 ∷ 52 ∷ 55 ∷ 52 ∷ 56 ∷ 51 ∷ 54 ∷ 52 ∷ 56 ∷ []) ≡ Number.Bad
+past : number_of (50 ∷ 49 ∷ 52 ∷ 55 ∷ 52 ∷ 56 ∷ 51 ∷ 54 ∷ 52 ∷ 56 ∷ []) ≡ None
 unfolding number_of signed_of magnitude_from is_digit
 past = refl
 
@@ -87,11 +86,11 @@ most : count_text 69 128 ≡ 69 ∷ 32 ∷ 49 ∷ 50 ∷ 56 ∷ 10 ∷ []
 unfolding count_text decimal digits_in
 most = refl
 
-start : fit_text (FirstFit.Start (negsuc 9)) ≡ 83 ∷ 32 ∷ 45 ∷ 49 ∷ 48 ∷ 10 ∷ []
+start : fit_text (Ok (Some (negsuc 9))) ≡ 83 ∷ 32 ∷ 45 ∷ 49 ∷ 48 ∷ 10 ∷ []
 unfolding fit_text start_text signed_text decimal digits_in
 start = refl
 
-nowhere : fit_text FirstFit.Nowhere ≡ 78 ∷ 10 ∷ []
+nowhere : fit_text (Ok None) ≡ 78 ∷ 10 ∷ []
 unfolding fit_text
 nowhere = refl
 

@@ -1,74 +1,60 @@
--- A letter and its numbers: what each letter makes of the numbers that an array holds.
+-- A letter and what stands behind it: what the letter makes of as many numbers as it takes.
 -- Assumes nothing.
-use mathlib.Core.Path.{◌≡◌, ◌∙◌}
-use mathlib.Core.Bool.{Bool, true, false, cond}
-use mathlib.Core.List.{List}
-use Prim.Native.Nat.{ℕ, ◌≤◌, ◌<◌}
-use native.Mathlib.Omega.{arith}
-use borrow.Author.Tests.{eq-eqb, ne_eqb}
-use lib.Dec.{eqb, lit≤}
-use lib.IntN.{ℤ, pos}
-use lib.ListN.{length, take}
-use lib.Seq.{length-take-le, get_or-take}
-use Rattle.command.specs.declared.Command.TheVariants.{Keep, Load, Update, Fit, Rows, Unreadable}
-use Rattle.command.specs.Grammar.{nth, job_of, numbers_taken, command_with, by_letter}
+use Rattle.std.proofs.Common.{◌≡◌, ℕ, true, false, cond, Bool, List, [], ◌∷◌, ◌∙◌, length, refl, sym, ap, Option, Some, None}
+use borrow.Author.Tests.{ne_eqb}
+use lib.Dec.{eqb}
+use lib.IntN.{ℤ}
+use Rattle.command.specs.declared.Command.{Command}
+use Rattle.command.specs.declared.Command.TheVariants.{Unreadable}
+use Rattle.command.specs.Grammar.{in_first, fields_of, values_behind, values_of, counted, numbers_taken, command_with, by_letter, asked, asked_by}
 
--- a letter with another count of numbers than it takes
-pub letter_miscounted : (letter : ℕ) (l : List ℤ) → (length l ≡ numbers_taken letter → ⊥) → by_letter letter l ≡ Unreadable
+-- what a letter says with as many numbers as it takes, or with none such
+abbrev pub said : ℕ → Option (List ℤ) → Command
+said letter (Some l) = command_with letter l
+said letter None = Unreadable
+
+said_counted : (letter : ℕ) (v : Option (List ℤ)) → asked letter v ≡ said letter (counted (numbers_taken letter) v)
 unfolding by_letter
-letter_miscounted letter l other = simp (ne_eqb (length l) (numbers_taken letter) other)
+said_counted letter (Some l) = go (eqb (length l) (numbers_taken letter))
+  where
+    go : (t : Bool) → cond t (command_with letter l) Unreadable ≡ said letter (cond t (Some l) None)
+    go true = refl
+    go false = refl
+said_counted letter None = refl
 
--- no letter takes more than four
-either : (test : Bool) (a b : ℕ) → a ≤ 4 → b ≤ 4 → cond test a b ≤ 4
-either true a b p q = p
-either false a b p q = q
+asked_behind : (letter : ℕ) (fs : List (List ℕ)) → asked_by (in_first letter fs) ≡ asked letter (values_behind fs)
+unfolding values_of
+asked_behind letter [] = refl
+asked_behind letter ([] ∷ fs) = refl
+asked_behind letter ((b ∷ bs) ∷ fs) = refl
 
-taken_few : (letter : ℕ) → numbers_taken letter ≤ 4
-unfolding numbers_taken
-taken_few letter =
-    either (eqb letter 74) 4 _ (lit≤ tt)
-    (either (eqb letter 85) 3 _ (lit≤ tt) (either (eqb letter 76) 1 _ (lit≤ tt) (either (eqb letter 80) 1 0 (lit≤ tt) (lit≤ tt))))
+module _ {line behind : List ℕ} (letter : ℕ) (whole : line ≡ letter ∷ behind) (dark : eqb letter 32 ≡ false) where
+  said_line : asked_by (fields_of line) ≡ said letter (counted (numbers_taken letter) (values_behind (fields_of behind)))
+  unfolding fields_of
+  said_line = rw (whole, dark) (asked_behind letter (fields_of behind) ∙ said_counted letter (values_behind (fields_of behind)))
 
-pub letter_many : (letter : ℕ) (l : List ℤ) → 4 < length l → by_letter letter l ≡ Unreadable
-letter_many letter l many = letter_miscounted letter l (λ e. omega (arith, taken_few letter))
+  pub unread : None ≡ counted (numbers_taken letter) (values_behind (fields_of behind)) → Unreadable ≡ asked_by (fields_of line)
+  unread none = sym (said_line ∙ ap (said letter) (sym none))
 
-module _ (letter : ℕ) (list : List ℤ) (n : ℕ) (few : n ≤ length list) (counted : n ≡ numbers_taken letter) where
-  right_count : by_letter letter (take n list) ≡ command_with letter (take n list)
-  unfolding by_letter
-  right_count = simp (eq-eqb (length (take n list)) (numbers_taken letter) (length-take-le n list few ∙ counted))
+  pub read_as : (l : List ℤ) → Some l ≡ counted (numbers_taken letter) (values_behind (fields_of behind)) → command_with letter l ≡ asked_by (fields_of line)
+  read_as l some = sym (said_line ∙ ap (said letter) (sym some))
 
-  nth_taken : (i : ℕ) → i < n → nth (take n list) i ≡ nth list i
-  nth_taken i h = get_or-take n list i (pos 0) h
+-- a letter that is none of the five says nothing
+no_command : (letter : ℕ) (v : Option (List ℤ)) → ¬ (letter ≡ 74) → ¬ (letter ≡ 76) → ¬ (letter ≡ 85) → ¬ (letter ≡ 80) → ¬ (letter ≡ 84) → Unreadable ≡ asked letter v
+unfolding by_letter command_with
+no_command letter None j l u p t = refl
+no_command letter (Some zs) j l u p t =
+    simp (ne_eqb letter 74 j, ne_eqb letter 76 l, ne_eqb letter 85 u, ne_eqb letter 80 p, ne_eqb letter 84 t) (go (eqb (length zs) (numbers_taken letter)))
+  where
+    go : (test : Bool) → Unreadable ≡ cond test Unreadable Unreadable
+    go true = refl
+    go false = refl
 
-  pub letter_job : letter ≡ 74 → by_letter letter (take n list) ≡ Keep (job_of list)
-  unfolding command_with numbers_taken
-  letter_job e =
-      let four : n ≡ 4 = rw e at counted in
-      right_count ∙ rw e (simp (nth_taken 0 (omega arith), nth_taken 1 (omega arith), nth_taken 2 (omega arith), nth_taken 3 (omega arith)))
-
-  pub letter_load : letter ≡ 76 → by_letter letter (take n list) ≡ Load (nth list 0)
-  unfolding command_with numbers_taken
-  letter_load e =
-      let one : n ≡ 1 = rw e at counted in
-      right_count ∙ rw e (simp (nth_taken 0 (omega arith)))
-
-  pub letter_update : letter ≡ 85 → by_letter letter (take n list) ≡ Update (nth list 0) (nth list 1) (nth list 2)
-  unfolding command_with numbers_taken
-  letter_update e =
-      let three : n ≡ 3 = rw e at counted in
-      right_count ∙ rw e (simp (nth_taken 0 (omega arith), nth_taken 1 (omega arith), nth_taken 2 (omega arith)))
-
-  pub letter_fit : letter ≡ 80 → by_letter letter (take n list) ≡ Fit (nth list 0)
-  unfolding command_with numbers_taken
-  letter_fit e =
-      let one : n ≡ 1 = rw e at counted in
-      right_count ∙ rw e (simp (nth_taken 0 (omega arith)))
-
-  pub letter_rows : letter ≡ 84 → by_letter letter (take n list) ≡ Rows
-  unfolding command_with
-  letter_rows e = right_count ∙ rw e
-
-  pub letter_none : (letter ≡ 74 → ⊥) → (letter ≡ 76 → ⊥) → (letter ≡ 85 → ⊥) → (letter ≡ 80 → ⊥) → (letter ≡ 84 → ⊥)
-      → by_letter letter (take n list) ≡ Unreadable
-  unfolding command_with
-  letter_none j l u p t = right_count ∙ simp (ne_eqb letter 74 j, ne_eqb letter 76 l, ne_eqb letter 85 u, ne_eqb letter 80 p, ne_eqb letter 84 t)
+pub other_letter : {line behind : List ℕ} (letter : ℕ) → line ≡ letter ∷ behind → ¬ (letter ≡ 74) → ¬ (letter ≡ 76) → ¬ (letter ≡ 85) → ¬ (letter ≡ 80) → ¬ (letter ≡ 84)
+    → Unreadable ≡ asked_by (fields_of line)
+unfolding fields_of
+other_letter {line} {behind} letter whole j l u p t = rw whole (go (eqb letter 32))
+  where
+    go : (space : Bool) → Unreadable ≡ asked_by (cond space ([] ∷ fields_of behind) (in_first letter (fields_of behind)))
+    go true = refl
+    go false = no_command letter (values_behind (fields_of behind)) j l u p t ∙ sym (asked_behind letter (fields_of behind))

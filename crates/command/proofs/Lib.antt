@@ -2,7 +2,6 @@ pub mod WrittenText
 pub mod DecimalDigits
 pub mod LineFields
 pub mod NumberSigns
-pub mod TextLengths
 pub mod LetterNumbers
 pub mod FieldNumbers
 pub mod LineBytes

@@ -7,10 +7,10 @@ use Prim.Native.Nat.{ℕ, ◌≤◌, ◌<◌}
 use native.Mathlib.Omega.{arith}
 use borrow.Author.Tests.{lt-ltb, le-ltb}
 use lib.IntN.{ℤ}
+use Rattle.std.specs.Prelude.{Option, Some, None, Result, Ok, Err}
 use Rattle.planner.specs.declared.Job.{Job}
 use Rattle.planner.specs.declared.RowRecord.{RowRecord}
 use Rattle.planner.specs.declared.Answer.{Answer}
-use Rattle.planner.specs.declared.FirstFit.{FirstFit}
 use Rattle.planner.specs.declared.Refusal.{Refusal}
 use Rattle.planner.specs.Loads.{loaded}
 use Rattle.planner.specs.Updates.{updated}
@@ -24,17 +24,17 @@ use Rattle.command.specs.PrintedAnswers.{RefusalPrinted, AnswerPrinted, FitPrint
 use Rattle.command.proofs.ReadableLines.{said_read}
 use Rattle.command.proofs.PrintedNumbers.{letter_printed, refusal_printed, overload_printed, start_printed}
 
-answer_printed : (a : Answer) (row : RowRecord) → AnswerPrinted a row (answer_text a row)
+answer_printed : (a : Result Answer Refusal) (row : RowRecord) → AnswerPrinted a row (answer_text a row)
 unfolding answer_text
-answer_printed Answer.Fits row = letter_printed 70 (omega arith)
-answer_printed Answer.Overloaded row = overload_printed row
-answer_printed (Answer.Refused why) row = refusal_printed why
+answer_printed (Ok Answer.Fits) row = letter_printed 70 (omega arith)
+answer_printed (Ok Answer.Overloaded) row = overload_printed row
+answer_printed (Err why) row = refusal_printed why
 
-fit_printed : (found : FirstFit) → FitPrinted found (fit_text found)
+fit_printed : (found : Result (Option ℤ) Refusal) → FitPrinted found (fit_text found)
 unfolding fit_text
-fit_printed (FirstFit.Start z) = start_printed z
-fit_printed FirstFit.Nowhere = letter_printed 78 (omega arith)
-fit_printed (FirstFit.Refused why) = refusal_printed why
+fit_printed (Ok (Some z)) = start_printed z
+fit_printed (Ok None) = letter_printed 78 (omega arith)
+fit_printed (Err why) = refusal_printed why
 
 module _ (s : Session) {line : List ℕ} where
   said : {c : Command} → Says line c → (answered s line).text ≡ (outcome s c).text

@@ -17,19 +17,18 @@ use lib.Signed.{mag}
 use Rattle.planner.specs.declared.Plan.{Plan}
 use Rattle.planner.specs.declared.RowRecord.{RowRecord}
 use Rattle.planner.specs.declared.Answer.{Answer}
-use Rattle.planner.specs.declared.Checked.{Checked}
-use Rattle.planner.specs.declared.FirstFit.{FirstFit}
 use Rattle.planner.specs.declared.Refusal.{Refusal}
+use Rattle.planner.specs.declared.Rows.{Rows}
 use Rattle.planner.specs.Loads.{loaded}
 use Rattle.planner.specs.Updates.{updated}
-use Rattle.planner.specs.Questions.{fit_of, rows_shown, shown_rows}
-use Rattle.command.specs.declared.number.Number.{Number}
+use Rattle.planner.specs.Questions.{fit_of, rows_shown, records_of}
+use Rattle.std.specs.Prelude.{Option, Some, None, Result, Ok, Err}
 use Rattle.command.specs.declared.Session.{Session}
 use Rattle.command.specs.declared.Command.{Command}
 use Rattle.command.specs.Decimal.{decimal, signed_text}
 use Rattle.command.specs.Numbers.{number_of}
 use Rattle.command.specs.Grammar.{in_first, fields_of, command_of}
-use Rattle.command.specs.Text.{count_text, answer_text, fit_text, row_text, rows_text, table_by, table_text, refusal_text}
+use Rattle.command.specs.Text.{count_text, answer_text, fit_text, row_text, rows_text, table_text, refusal_text}
 use Rattle.command.specs.Sessions.{Outcome, fresh_session, outcome, answered}
 use Rattle.command.specs.Lines.{lines_of, NoFeed, LinesAre, rest, ends, over, printed, transcript}
 use Rattle.command.specs.ReadableLines.{AllDigits, value_of, Digits, Numeral}
@@ -74,7 +73,7 @@ number_reads z = spelled_read (signed_spells z)
 decimal_digits : (n : ℕ) → n < 2 ^ 32 → Digits (decimal n)
 decimal_digits n h = let s = shortest n in record { all = s.all; some = s.some; few = decimal_short n h }
 
-pub number_typed : (z : ℤ) → mag z < 2 ^ 31 → number_of (signed_text z) ≡ Number.Is z
+pub number_typed : (z : ℤ) → mag z < 2 ^ 31 → number_of (signed_text z) ≡ Some z
 unfolding signed_text
 number_typed (pos n) h =
     let v = decimal_value n in
@@ -156,17 +155,17 @@ one_line_read {letter} {zs} {text} low high o =
 refusal_read : (why : Refusal) → ReadsAs (refusal_text why) (refusal_reply why ∷ [])
 refusal_read why = one_line_read (omega arith) (omega arith) (refusal_printed why)
 
-answer_read_lem : (a : Answer) (r : RowRecord) → ReadsAs (answer_text a r) (answer_reply a r ∷ [])
+answer_read_lem : (a : Result Answer Refusal) (r : RowRecord) → ReadsAs (answer_text a r) (answer_reply a r ∷ [])
 unfolding answer_text
-answer_read_lem Answer.Fits r = one_line_read (omega arith) (omega arith) (letter_printed 70 (omega arith))
-answer_read_lem Answer.Overloaded r = one_line_read (omega arith) (omega arith) (overload_printed r)
-answer_read_lem (Answer.Refused why) r = refusal_read why
+answer_read_lem (Ok Answer.Fits) r = one_line_read (omega arith) (omega arith) (letter_printed 70 (omega arith))
+answer_read_lem (Ok Answer.Overloaded) r = one_line_read (omega arith) (omega arith) (overload_printed r)
+answer_read_lem (Err why) r = refusal_read why
 
-fit_read : (found : FirstFit) → ReadsAs (fit_text found) (fit_reply found ∷ [])
+fit_read : (found : Result (Option ℤ) Refusal) → ReadsAs (fit_text found) (fit_reply found ∷ [])
 unfolding fit_text
-fit_read (FirstFit.Start z) = one_line_read (omega arith) (omega arith) (start_printed z)
-fit_read FirstFit.Nowhere = one_line_read (omega arith) (omega arith) (letter_printed 78 (omega arith))
-fit_read (FirstFit.Refused why) = refusal_read why
+fit_read (Ok (Some z)) = one_line_read (omega arith) (omega arith) (start_printed z)
+fit_read (Ok None) = one_line_read (omega arith) (omega arith) (letter_printed 78 (omega arith))
+fit_read (Err why) = refusal_read why
 
 -- a row's line starts with a number
 row_first : {f : List ℕ} {z : ℤ} (fs : List (List ℕ)) → Spells f z → read_fields (f ∷ fs) ≡ read_row (read_numbers (f ∷ fs))
@@ -194,9 +193,13 @@ rows_read (r ∷ rows) = then_read (row_read r) (rows_read rows)
 count_read : (n k : ℕ) → n ≡ k → ReadsAs (count_text 69 n) (Reply.count (pos k) ∷ [])
 count_read n k e = rw (← e) (one_line_read (omega arith) (omega arith) (count_printed 69 n (omega arith)))
 
-table_read : (plan : Plan) (a : Checked) → ReadsAs (table_by a (rows_shown plan)) (row_replies a (shown_rows (rows_shown plan)))
-table_read plan Checked.Accepted = then_read (rows_read (shown_rows (rows_shown plan))) (count_read _ _ (omega (arith, shown_counts plan)))
-table_read plan (Checked.Refused why) = refusal_read why
+shown_read : (shown : Result Rows Refusal) → ((rows : Rows) → shown ≡ Ok rows → rows.count ≡ length (records_of rows)) → ReadsAs (table_text shown) (row_replies shown)
+unfolding table_text
+shown_read (Ok rows) counts = then_read (rows_read (records_of rows)) (count_read _ _ (counts rows refl))
+shown_read (Err why) counts = refusal_read why
+
+table_read : (plan : Plan) → ReadsAs (table_text (rows_shown plan)) (row_replies (rows_shown plan))
+table_read plan = shown_read (rows_shown plan) (shown_counts plan)
 
 -- what a command prints
 either_read : (b : Bool) (o p : Outcome) {replies others : List Reply} → ReadsAs o.text replies → ReadsAs p.text others → ReadsAs (cond b o p).text (cond b replies others)
@@ -204,12 +207,12 @@ either_read true o p first second = first
 either_read false o p first second = second
 
 command_read : (s : Session) (c : Command) → ReadsAs (outcome s c).text (replies_to s c)
-unfolding outcome replies_to table_text
+unfolding outcome replies_to
 command_read s (Command.Keep job) = either_read (ltb s.jobs.count 32) _ _ nothing_read (refusal_read Refusal.TooManyJobs)
 command_read s (Command.Load capacity) = let l = loaded s.plan s.jobs capacity in answer_read_lem l.answer l.row
 command_read s (Command.Update id earliest latest) = let u = updated s.plan id earliest latest in answer_read_lem u.answer u.row
 command_read s (Command.Fit id) = fit_read (fit_of s.plan id)
-command_read s Command.Rows = table_read s.plan (rows_shown s.plan).answer
+command_read s Command.Rows = table_read s.plan
 command_read s Command.Unreadable = refusal_read Refusal.Unreadable
 
 pub reads_back : (s : Session) (c : Command) → read_answers (outcome s c).text ≡ replies_to s c

@@ -12,12 +12,12 @@ use borrow.Author.Tests.{ne_eqb, le-leb, leb-true, eqb-true}
 use lib.Dec.{leb, eqb}
 use lib.IntN.{ℤ, pos, neg_ℤ}
 use lib.ListN.{length, length-append}
-use Rattle.command.specs.declared.number.Number.{Number}
-use Rattle.command.specs.declared.number.Magnitude.{Magnitude}
+use Rattle.std.specs.Prelude.{Option, Some, None}
+use Rattle.std.proofs.lemmas.Option.{none-some, same_Some}
 use Rattle.command.specs.declared.Command.{Command}
 use Rattle.command.specs.declared.Command.TheVariants.{Unreadable}
 use Rattle.command.specs.Numbers.{is_digit, magnitude_from, within, most_digits, signed_of, number_of}
-use Rattle.command.specs.Grammar.{in_first, fields_of, Values, all, none, values_of, numbers_taken, command_with, by_letter, asked, asked_by, line_limit, command_of}
+use Rattle.command.specs.Grammar.{in_first, fields_of, values_of, numbers_taken, command_with, by_letter, asked, asked_by, line_limit, command_of}
 use Rattle.command.specs.ReadableLines.{AllDigits, value_of, Digits, Numeral, plain, minus, Numerals, line_with, Says, keep, load, update, fit, rows}
 use Rattle.command.specs.ReadableLines.{none as no-numerals, more as numeral-then}
 use Rattle.command.proofs.SpacesAndFeeds.{Above, AllAbove, fields_joined}
@@ -30,24 +30,24 @@ tested false p q = q refl
 either : {A B C : Type 0} → A ⊎ B → (A → C) → (B → C) → C
 either s f g = ⊎_elim f g s
 
--- two constructors are never equal
-bad_not : {A : Type 0} {z : ℤ} → Number.Bad ≡ Number.Is z → A
-bad_not e = let clash : ◌≡◌ {A = ℕ} 0 1 = cc in absurd (omega arith)
+-- nothing is not something
+none_not : {A B : Type 0} {x : B} → None ≡ Some x → A
+none_not e = absurd (none-some _ e)
 
 -- digits that are read behind a value, or a byte among them that is none
 pub value_more : (v k n w : ℕ) → (v * 10 + k) * 10 ^ n + w ≡ v * 10 ^ suc n + (k * 10 ^ n + w)
 value_more v k n w = rw (add-mul (v * 10) k (10 ^ n), mul_assoc v 10 (10 ^ n), pow-succ' 10 n) (add_assoc (v * (10 * 10 ^ n)) (k * 10 ^ n) w)
 
-digits_behind : (ds : List ℕ) (v : ℕ) → AllDigits ds → magnitude_from v ds ≡ Magnitude.Is (v * 10 ^ length ds + value_of ds)
+digits_behind : (ds : List ℕ) (v : ℕ) → AllDigits ds → magnitude_from v ds ≡ Some (v * 10 ^ length ds + value_of ds)
 unfolding magnitude_from is_digit value_of
-digits_behind [] v p = ap Magnitude.Is (omega arith)
+digits_behind [] v p = ap Some (omega arith)
 digits_behind (d ∷ ds) v p =
-    rw (le-leb 48 d p.0, le-leb d 57 p.1) (digits_behind ds (v * 10 + (d - 48)) p.2 ∙ ap Magnitude.Is (value_more v (d - 48) (length ds) (value_of ds)))
+    rw (le-leb 48 d p.0, le-leb d 57 p.1) (digits_behind ds (v * 10 + (d - 48)) p.2 ∙ ap Some (value_more v (d - 48) (length ds) (value_of ds)))
 
-digits_read : (ds : List ℕ) → AllDigits ds → magnitude_from 0 ds ≡ Magnitude.Is (value_of ds)
-digits_read ds p = digits_behind ds 0 p ∙ ap Magnitude.Is (omega arith)
+digits_read : (ds : List ℕ) → AllDigits ds → magnitude_from 0 ds ≡ Some (value_of ds)
+digits_read ds p = digits_behind ds 0 p ∙ ap Some (omega arith)
 
-digits_or_bad : (ds : List ℕ) (v : ℕ) → AllDigits ds ⊎ (magnitude_from v ds ≡ Magnitude.Bad)
+digits_or_bad : (ds : List ℕ) (v : ℕ) → AllDigits ds ⊎ (magnitude_from v ds ≡ None)
 unfolding magnitude_from is_digit
 digits_or_bad [] v = inl tt
 digits_or_bad (d ∷ ds) v =
@@ -62,38 +62,35 @@ signed_read : (m : Bool) (ds : List ℕ) → Digits ds → signed_of m ds ≡ wi
 unfolding signed_of
 signed_read m ds g = rw (le-leb 1 (length ds) g.some, le-leb (length ds) most_digits (omega (arith, g.few)), digits_read ds g.all)
 
-signed_digits : (m : Bool) (ds : List ℕ) (z : ℤ) → signed_of m ds ≡ Number.Is z → Digits ds
+signed_digits : (m : Bool) (ds : List ℕ) (z : ℤ) → signed_of m ds ≡ Some z → Digits ds
 unfolding signed_of
 signed_digits m ds z e =
     tested (leb 1 (length ds))
     (λ some. tested (leb (length ds) most_digits)
     (λ few. either (digits_or_bad ds 0)
     (λ p. record { all = p; some = leb-true 1 (length ds) some; few = omega (arith, leb-true (length ds) most_digits few) })
-    (λ bad. bad_not (rw (some, few, bad) at e)))
-    (λ few. bad_not (rw (some, few) at e)))
-    (λ some. bad_not (rw some at e))
+    (λ bad. none_not (rw (some, few, bad) at e)))
+    (λ few. none_not (rw (some, few) at e)))
+    (λ some. none_not (rw some at e))
 
 -- the range
-is_same : {y z : ℤ} → Number.Is y ≡ Number.Is z → y ≡ z
-is_same e = cc
+plain_range : (n : ℕ) (z : ℤ) → within false n ≡ Some z → (n ≤ 2147483647) × (pos n ≡ z)
+plain_range n z e = tested (leb n 2147483647) (λ t. (leb-true n 2147483647 t, same_Some _ _ (rw t at e))) (λ t. none_not (rw t at e))
 
-plain_range : (n : ℕ) (z : ℤ) → within false n ≡ Number.Is z → (n ≤ 2147483647) × (pos n ≡ z)
-plain_range n z e = tested (leb n 2147483647) (λ t. (leb-true n 2147483647 t, is_same (rw t at e))) (λ t. bad_not (rw t at e))
-
-minus_range : (n : ℕ) (z : ℤ) → within true n ≡ Number.Is z → (n ≤ 2147483648) × (neg_ℤ (pos n) ≡ z)
-minus_range n z e = tested (leb n 2147483648) (λ t. (leb-true n 2147483648 t, is_same (rw t at e))) (λ t. bad_not (rw t at e))
+minus_range : (n : ℕ) (z : ℤ) → within true n ≡ Some z → (n ≤ 2147483648) × (neg_ℤ (pos n) ≡ z)
+minus_range n z e = tested (leb n 2147483648) (λ t. (leb-true n 2147483648 t, same_Some _ _ (rw t at e))) (λ t. none_not (rw t at e))
 
 -- a field is read as a number exactly if it is that number's text
-pub numeral_read : {f : List ℕ} {z : ℤ} → Numeral f z → number_of f ≡ Number.Is z
+pub numeral_read : {f : List ℕ} {z : ℤ} → Numeral f z → number_of f ≡ Some z
 unfolding number_of
 numeral_read (plain {ds = []} g small) = absurd (omega (arith, g.some))
 numeral_read (plain {ds = d ∷ ds} g small) =
     rw (ne_eqb d 45 (λ e. omega (arith, g.all.0, e))) (signed_read false (d ∷ ds) g ∙ rw (le-leb (value_of (d ∷ ds)) 2147483647 small))
 numeral_read (minus {ds = ds} g small) = signed_read true ds g ∙ rw (le-leb (value_of ds) 2147483648 small)
 
-numeral_of : (f : List ℕ) (z : ℤ) → number_of f ≡ Number.Is z → Numeral f z
+numeral_of : (f : List ℕ) (z : ℤ) → number_of f ≡ Some z → Numeral f z
 unfolding number_of
-numeral_of [] z e = bad_not e
+numeral_of [] z e = none_not e
 numeral_of (b ∷ bs) z e =
     tested (eqb b 45)
     (λ t.
@@ -108,26 +105,20 @@ numeral_of (b ∷ bs) z e =
     rw (← r.1) (plain g r.0))
 
 -- so are all fields
-all_same : {l m : List ℤ} → all l ≡ all m → l ≡ m
-all_same e = cc
-
-none_not : {A : Type 0} {l : List ℤ} → none ≡ all l → A
-none_not e = let clash : ◌≡◌ {A = ℕ} 0 1 = cc in absurd (omega arith)
-
-values_read : {fs : List (List ℕ)} {zs : List ℤ} → Numerals fs zs → values_of fs ≡ all zs
+values_read : {fs : List (List ℕ)} {zs : List ℤ} → Numerals fs zs → values_of fs ≡ Some zs
 unfolding values_of
 values_read no-numerals = refl
 values_read (numeral-then n ns) = rw (numeral_read n, values_read ns)
 
-values_of_lem : (fs : List (List ℕ)) (zs : List ℤ) → values_of fs ≡ all zs → Numerals fs zs
+values_of_lem : (fs : List (List ℕ)) (zs : List ℤ) → values_of fs ≡ Some zs → Numerals fs zs
 unfolding values_of
-values_of_lem [] zs e = rw (← (all_same e)) no-numerals
+values_of_lem [] zs e = rw (← (same_Some _ _ e)) no-numerals
 values_of_lem (f ∷ fs) zs e = go (number_of f) (values_of fs) refl refl (λ ms q. values_of_lem fs ms q)
   where
-    go : (n : Number) (v : Values) → number_of f ≡ n → values_of fs ≡ v → ((ms : List ℤ) → values_of fs ≡ all ms → Numerals fs ms) → Numerals (f ∷ fs) zs
-    go Number.Bad v p q rest = none_not (rw p at e)
-    go (Number.Is z) none p q rest = none_not (rw (p, q) at e)
-    go (Number.Is z) (all ms) p q rest = rw (← (all_same (rw (p, q) at e))) (numeral-then (numeral_of f z p) (rest ms q))
+    go : (n : Option ℤ) (v : Option (List ℤ)) → number_of f ≡ n → values_of fs ≡ v → ((ms : List ℤ) → values_of fs ≡ Some ms → Numerals fs ms) → Numerals (f ∷ fs) zs
+    go None v p q rest = none_not (rw p at e)
+    go (Some z) None p q rest = none_not (rw (p, q) at e)
+    go (Some z) (Some ms) p q rest = rw (← (same_Some _ _ (rw (p, q) at e))) (numeral-then (numeral_of f z p) (rest ms q))
 
 -- a number's text has neither a space nor more than 11 bytes
 digits_above : (ds : List ℕ) → AllDigits ds → Above 32 ds
@@ -268,9 +259,9 @@ module _ (fs : List (List ℕ)) where
 abbrev ReadAs : List ℕ → Command → Type 0
 ReadAs line c = (c ≡ Unreadable) ⊎ Says line c
 
-by_values : (letter : ℕ) (fs : List (List ℕ)) (v : Values) → values_of fs ≡ v → ReadAs (line_with letter fs) (asked letter v)
-by_values letter fs (all zs) e = by_letter_lem fs zs (values_of_lem fs zs e) letter
-by_values letter fs none e = inl refl
+by_values : (letter : ℕ) (fs : List (List ℕ)) (v : Option (List ℤ)) → values_of fs ≡ v → ReadAs (line_with letter fs) (asked letter v)
+by_values letter fs (Some zs) e = by_letter_lem fs zs (values_of_lem fs zs e) letter
+by_values letter fs None e = inl refl
 
 by_fields : (fs : List (List ℕ)) → ReadAs (whole fs) (asked_by fs)
 by_fields [] = inl refl

@@ -1,19 +1,21 @@
 -- A row's line, split at its spaces, is its numbers: each has digits and at most a minus, so the spaces that are printed between them are the only ones.
 -- The count that is shown with the rows is their number, since both are of one list.
 -- Assumes nothing.
-use mathlib.Core.Path.{◌≡◌, refl, sym, ap, ◌∙◌}
+use mathlib.Core.Path.{◌≡◌, refl, sym, ap, ◌∙◌, subst}
 use mathlib.Core.Bool.{Bool, true, false, cond}
 use mathlib.Core.List.{List, [], ◌∷◌, ◌++◌, map, flat_map, append_assoc}
 use Prim.Native.Nat.{ℕ}
 use lib.ListN.{length}
 use lib.Seq.{take_at}
+use Rattle.std.specs.Prelude.{Result, Ok, Err}
 use Rattle.time_table.specs.Rows.{rows_of}
 use Rattle.planner.specs.declared.Plan.{Plan}
 use Rattle.planner.specs.declared.RowRecord.{RowRecord}
-use Rattle.planner.specs.declared.Checked.{Checked}
+use Rattle.planner.specs.declared.Refusal.{Refusal}
+use Rattle.planner.specs.declared.Rows.{Rows}
 use Rattle.planner.specs.declared.Refusal.TheVariants.{Stale}
 use Rattle.planner.specs.Records.{record_of, ids_of}
-use Rattle.planner.specs.Questions.{rows_with, rows_shown, shown_rows}
+use Rattle.planner.specs.Questions.{rows_with, rows_shown, records_of}
 use Rattle.command.specs.Decimal.{decimal, signed_text}
 use Rattle.command.specs.Grammar.{fields_of}
 use Rattle.command.specs.Text.{spaced, id_text, ids_text}
@@ -53,13 +55,13 @@ row_above r =
     rw (row_line_lem r) (above_append 10 s (flat_map after_space (behind_start r)) (above_less s above.0) (spaces_above (behind_start r) above.1))
 
 -- the count of the rows that are shown is their number
-pub shown_counts : (plan : Plan) → (rows_shown plan).count ≡ length (shown_rows (rows_shown plan))
+pub shown_counts : (plan : Plan) (rows : Rows) → rows_shown plan ≡ Ok rows → rows.count ≡ length (records_of rows)
 unfolding rows_shown
-shown_counts plan = go plan.live
+shown_counts plan rows = go plan.live
   where
     table : List RowRecord
     table = map record_of (rows_of plan.table)
 
-    go : (live : Bool) → (let r = cond live (rows_with Checked.Accepted table) (rows_with (Checked.Refused Stale) []) in r.count ≡ length (shown_rows r))
-    go true = ap length (sym (take_at table _ (length table) refl))
-    go false = refl
+    go : (live : Bool) → ◌≡◌ {A = Result Rows Refusal} (cond live (Ok (rows_with table)) (Err Stale)) (Ok rows) → rows.count ≡ length (records_of rows)
+    go true shown = let is : rows_with table ≡ rows = cc in subst (λ (r : Rows). r.count ≡ length (records_of r)) is (ap length (sym (take_at table _ (length table) refl)))
+    go false shown = cc

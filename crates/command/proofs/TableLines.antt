@@ -10,26 +10,26 @@ use native.Mathlib.Omega.{arith}
 use lib.IntN.{pos}
 use lib.ListN.{length, get_or, length-append, length-map, get_or-append}
 use lib.Seq.{get_or_at}
+use Rattle.std.specs.Prelude.{Result, Ok, Err, IsOk}
 use Rattle.sweep.proofs.Placed.{get_map}
 use Rattle.planner.specs.declared.Plan.{Plan}
 use Rattle.planner.specs.declared.RowRecord.{RowRecord}
 use Rattle.planner.specs.declared.Rows.{Rows}
-use Rattle.planner.specs.declared.Checked.{Checked}
-use Rattle.planner.specs.Refusals.{number_of, Verdict, verdict}
+use Rattle.planner.specs.declared.Refusal.{Refusal}
+use Rattle.planner.specs.Refusals.{number_of, Verdict, admitted, verdict}
 use Rattle.planner.specs.Records.{no_record}
 use Rattle.planner.specs.Answers.{fresh_plan}
-use Rattle.planner.specs.Questions.{rows_shown, shown_rows}
+use Rattle.planner.specs.Questions.{rows_shown, records_of, shown_rows}
 use Rattle.planner.specs.History.{Call, plan_after}
 use Rattle.planner.specs.Stale.{stale_after}
 use Rattle.planner.proofs.Tests.{by_test}
-use Rattle.planner.proofs.Given.{taken}
 use Rattle.planner.proofs.Numbers.{rows_refused_9, rows_accepted_when}
 use Rattle.planner.proofs.Histories.{rows_demanded}
 use Rattle.planner.proofs.HeardStale.{heard_rows_9}
 use Rattle.command.specs.declared.Session.{Session}
 use Rattle.command.specs.Decimal.{digits_in, decimal}
 use Rattle.command.specs.Grammar.{fields_of, values_of, numbers_taken, command_with, by_letter, command_of}
-use Rattle.command.specs.Text.{spaced, count_text, refusal_text, row_text, rows_text, table_by, table_text}
+use Rattle.command.specs.Text.{spaced, count_text, refusal_text, row_text, rows_text, table_text}
 use Rattle.command.specs.Sessions.{fresh_session, outcome, answered}
 use Rattle.command.specs.Lines.{lines_after, lines_of}
 use Rattle.command.specs.Calls.{session_after, calls_of}
@@ -89,27 +89,35 @@ module _ (calls : List Call) where
   abbrev plan : Plan
   plan = plan_after fresh_plan calls
 
-  abbrev shown : Rows
+  abbrev shown : Result Rows Refusal
   shown = rows_shown plan
 
   -- a table that is accepted, and one that is refused
-  accepted : shown.answer ≡ Checked.Accepted → ListsRows (shown_rows shown) (table_text shown)
+  accepted : IsOk shown → ListsRows (shown_rows shown) (table_text shown)
   unfolding table_text
-  accepted taken = subst (ListsRows (shown_rows shown)) (sym (ap (λ (a : Checked). table_by a shown) taken)) (lists_rows (shown_rows shown) _ (omega (arith, shown_counts plan)))
-
-  refused : verdict shown.answer ≡ Verdict.refused 9 → table_text shown ≡ 82 ∷ 32 ∷ 57 ∷ 10 ∷ []
-  unfolding table_text refusal_text count_text decimal digits_in
-  refused = go shown.answer
+  accepted = go shown (shown_counts plan)
     where
-      go : (a : Checked) → verdict a ≡ Verdict.refused 9 → table_by a shown ≡ 82 ∷ 32 ∷ 57 ∷ 10 ∷ []
-      go Checked.Accepted e = let clash : ◌≡◌ {A = ℕ} 0 1 = cc in absurd (omega arith)
-      go (Checked.Refused why) e = let nine : number_of why ≡ 9 = cc in ap (count_text 82) nine
+      go : (a : Result Rows Refusal) → ((rows : Rows) → a ≡ Ok rows → rows.count ≡ length (records_of rows)) → IsOk a → ListsRows (shown_rows a) (table_text a)
+      go (Ok rows) counts taken = lists_rows (records_of rows) _ (counts rows refl)
+      go (Err why) counts taken = cc
+
+  refused : verdict shown ≡ Verdict.refused 9 → table_text shown ≡ 82 ∷ 32 ∷ 57 ∷ 10 ∷ []
+  unfolding table_text refusal_text count_text decimal digits_in
+  refused = go shown
+    where
+      go : (a : Result Rows Refusal) → verdict a ≡ Verdict.refused 9 → table_text a ≡ 82 ∷ 32 ∷ 57 ∷ 10 ∷ []
+      go (Ok rows) e = cc
+      go (Err why) e = let nine : number_of why ≡ 9 = cc in ap (count_text 82) nine
 
   -- the rows are refused with 9 exactly if the answers say that the table is stale
-  not_stale : stale_after fresh_plan false calls ≡ false → shown.answer ≡ Checked.Accepted
+  taken : (a : Result Rows Refusal) → verdict a ≡ admitted → IsOk a
+  taken (Ok rows) e = refl
+  taken (Err why) e = cc
+
+  not_stale : stale_after fresh_plan false calls ≡ false → IsOk shown
   not_stale fresh =
       ⊎_elim
-      (λ live. taken shown.answer ((rows_accepted_when plan).1 live))
+      (λ live. taken shown ((rows_accepted_when plan).1 live))
       (λ stale. absurd (true≢false (sym ((heard_rows_9 calls).0 ((rows_refused_9 plan).1 stale)) ∙ fresh)))
       (by_test plan.live)
 

@@ -1,9 +1,6 @@
 -- The grammar of a line: a letter, then numbers, single spaces between, in at most 80 bytes.
-use Rattle.std.specs.Prelude.{true, false, cond, List, [], ◌∷◌, ◌++◌, ℕ, ◌+◌, leb, eqb, ℤ, pos, length, take, drop, get_or}
-use Rattle.time_table.specs.Held.{pad, Held}
+use Rattle.std.specs.Prelude.{cond, List, [], ◌∷◌, ◌++◌, ℕ, leb, eqb, ℤ, pos, length, get_or, Option, Some, None}
 use Rattle.planner.specs.declared.Job.{Job}
-use Rattle.command.specs.declared.number.Number.{Number}
-use Rattle.command.specs.declared.parse.Numbers.{Numbers}
 use Rattle.command.specs.declared.Command.{Command}
 use Rattle.command.specs.declared.Command.TheVariants.{Keep, Load, Update, Fit, Rows, Unreadable}
 use Rattle.command.specs.Numbers.{number_of}
@@ -19,20 +16,16 @@ fields_of [] = [] ∷ []
 fields_of (b ∷ bs) = cond (eqb b 32) ([] ∷ fields_of bs) (in_first b (fields_of bs))
 
 -- the numbers of some fields, if each is one
-pub data Values : Type 0 where
-  all : List ℤ → Values
-  none : Values
+abbrev pub before : List ℤ → Option (List ℤ) → Option (List ℤ)
+before l (Some m) = Some (l ++ m)
+before l None = None
 
-abbrev pub before : List ℤ → Values → Values
-before l (all m) = all (l ++ m)
-before l none = none
+abbrev pub first_of : Option ℤ → Option (List ℤ) → Option (List ℤ)
+first_of (Some z) v = before (z ∷ []) v
+first_of None v = None
 
-abbrev pub first_of : Number → Values → Values
-first_of (Number.Is z) v = before (z ∷ []) v
-first_of Number.Bad v = none
-
-unfoldable pub values_of : List (List ℕ) → Values
-values_of [] = all []
+unfoldable pub values_of : List (List ℕ) → Option (List ℤ)
+values_of [] = Some []
 values_of (f ∷ fs) = first_of (number_of f) (values_of fs)
 
 abbrev pub nth : List ℤ → ℕ → ℤ
@@ -55,9 +48,9 @@ command_with letter l =
 unfoldable pub by_letter : ℕ → List ℤ → Command
 by_letter letter l = cond (eqb (length l) (numbers_taken letter)) (command_with letter l) Unreadable
 
-abbrev pub asked : ℕ → Values → Command
-asked letter (all l) = by_letter letter l
-asked letter none = Unreadable
+abbrev pub asked : ℕ → Option (List ℤ) → Command
+asked letter (Some l) = by_letter letter l
+asked letter None = Unreadable
 
 abbrev pub asked_by : List (List ℕ) → Command
 asked_by [] = Unreadable
@@ -73,25 +66,17 @@ line_limit = 80
 unfoldable pub command_of : List ℕ → Command
 command_of line = cond (leb (length line) line_limit) (asked_by (fields_of line)) Unreadable
 
--- how long the first field is, and the fields from a place on
-unfoldable pub field_length : List ℕ → ℕ
-field_length [] = 0
-field_length (b ∷ bs) = cond (eqb b 32) 0 (field_length bs + 1)
+-- the numbers of what stands behind a letter: nothing before its first space, and then the fields
+abbrev pub values_behind : List (List ℕ) → Option (List ℤ)
+values_behind [] = Some []
+values_behind ([] ∷ fs) = values_of fs
+values_behind ((b ∷ bs) ∷ fs) = None
 
-unfoldable pub fields_from : List ℕ → ℕ → List (List ℕ)
-fields_from line at = cond (leb at (length line)) (fields_of (drop at line)) []
+-- so many numbers, or none
+abbrev pub counted : ℕ → Option (List ℤ) → Option (List ℤ)
+counted n (Some l) = cond (eqb (length l) n) (Some l) None
+counted n None = None
 
--- a struct that holds some numbers
-abbrev pub HeldNumbers : Numbers → Type 0
-HeldNumbers n = Held 4 (pos 0) n.list n.count (take n.count n.list)
-
--- the struct of some numbers, where there are at most four, and of none
-abbrev pub no_numbers : Numbers
-no_numbers = record { ok = false; list = pad 4 (pos 0) []; count = 0 }
-
-abbrev pub some_numbers : List ℤ → Numbers
-some_numbers l = record { ok = true; list = pad 4 (pos 0) l; count = length l }
-
-unfoldable pub numbers_with : Values → Numbers
-numbers_with (all l) = cond (leb (length l) 4) (some_numbers l) no_numbers
-numbers_with none = no_numbers
+-- what is read behind a letter that takes so many numbers
+abbrev pub numbers_behind : ℕ → List ℕ → Option (List ℤ)
+numbers_behind n text = counted n (values_behind (fields_of text))

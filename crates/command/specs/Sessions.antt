@@ -1,16 +1,12 @@
 -- A session: what each command does to it and prints.
-use Rattle.std.specs.Prelude.{cond, List, [], ℕ, ltb, ℤ}
+use Rattle.std.specs.Prelude.{Result, cond, List, [], ℕ, ltb, ℤ}
 use Rattle.time_table.specs.Held.{Held}
 use Rattle.planner.specs.declared.Job.{Job}
-use Rattle.planner.specs.declared.Jobs.{Jobs}
 use Rattle.planner.specs.declared.Plan.{Plan}
 use Rattle.planner.specs.declared.Answer.{Answer}
 use Rattle.planner.specs.declared.RowRecord.{RowRecord}
-use Rattle.planner.specs.declared.Updated.{Updated}
 use Rattle.planner.specs.declared.Refusal.{Refusal}
 use Rattle.planner.specs.declared.Refusal.TheVariants.{TooManyJobs}
-use Rattle.planner.specs.Sound.{Sound}
-use Rattle.planner.specs.Records.{no_record}
 use Rattle.planner.specs.Answers.{fresh_plan}
 use Rattle.planner.specs.Given.{no_job}
 use Rattle.planner.specs.Kept.{jobs_with, keeping}
@@ -22,9 +18,8 @@ use Rattle.command.specs.declared.Command.{Command}
 use Rattle.command.specs.Grammar.{command_of}
 use Rattle.command.specs.Text.{refusal_text, answer_text, fit_text, table_text}
 
--- a session whose plan is sound and whose jobs are at most 32; only this crate makes sessions, and each that it hands out is ready
+-- a session whose jobs are at most 32; only this crate makes sessions, and each that it hands out is ready. Its plan is sound, as every plan is
 pub record Ready (s : Session) : Type 0 where
-  pub plan : Sound s.plan
   pub jobs : Held 32 no_job s.jobs.list s.jobs.count (jobs_of s.jobs)
 
 abbrev pub fresh_session : Session
@@ -46,7 +41,7 @@ kept s job =
     (refused s TooManyJobs)
 
 -- `L` loads the kept jobs and, accepted or not, empties the list
-abbrev pub after_load : Plan → Answer → RowRecord → Outcome
+abbrev pub after_load : Plan → Result Answer Refusal → RowRecord → Outcome
 after_load plan answer row = record { session = record { plan = plan; jobs = jobs_with [] }; text = answer_text answer row }
 
 abbrev pub loads : Session → ℤ → Outcome
@@ -79,19 +74,3 @@ outcome s Command.Unreadable = refused s Refusal.Unreadable
 -- what a line leads to
 abbrev pub answered : Session → List ℕ → Outcome
 answered s line = outcome s (command_of line)
-
--- how a line is answered step by step: a plan with nothing answered yet, the jobs with one more, and what a command prints that leaves the plan as it
--- is; a load and an update print by the planner's answer
-abbrev pub unanswered : Plan → Updated
-unanswered plan = record { plan = plan; answer = Answer.Fits; row = no_record }
-
-abbrev pub more_kept : Jobs → Job → Jobs
-more_kept jobs job = cond (ltb jobs.count 32) (keeping jobs job) jobs
-
-unfoldable pub told : Plan → ℕ → Command → List ℕ
-told plan kept (Command.Keep job) = cond (ltb kept 32) [] (refusal_text TooManyJobs)
-told plan kept (Command.Load capacity) = []
-told plan kept (Command.Update id earliest latest) = []
-told plan kept (Command.Fit id) = fit_text (fit_of plan id)
-told plan kept Command.Rows = table_text (rows_shown plan)
-told plan kept Command.Unreadable = refusal_text Refusal.Unreadable

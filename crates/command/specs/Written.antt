@@ -1,13 +1,15 @@
--- Text that is put into a lent slice.
+-- Text that is written to a lent slice, behind what was written before.
 use Rattle.std.specs.Prelude.{◌≡◌, List, ℕ, ◌+◌, ◌≤◌, length}
 use Rattle.std.proofs.lemmas.List.Edits.{sets}
+use Rattle.command.specs.declared.text.Writer.{Writer}
 
--- the slice has room for the text from a place on
-abbrev pub Room : List ℕ → ℕ → List ℕ → Type 0
-Room out at text = at + length text ≤ length out
+-- the slice has room for so many more bytes
+abbrev pub Room : Writer → ℕ → Type 0
+Room w n = w.len + n ≤ length w.out.now
 
--- the slice after the text was put there, all else as it was, and the place behind it, which is within the slice
-pub record Written (out : List ℕ) (at : ℕ) (text after : List ℕ) (next : ℕ) : Type 0 where
-  pub bytes : after ≡ sets out at text
-  pub place : next ≡ at + length text
-  pub fits : next ≤ length out
+-- the writer once the text is written: it has the same slice, the text stands in it behind what was written before, and all else is as it was
+pub record Written (before : Writer) (text : List ℕ) (after : Writer) : Type 0 where
+  pub slice : after.out.ghost_name ≡ before.out.ghost_name
+  pub bytes : after.out.now ≡ sets before.out.now before.len text
+  pub place : after.len ≡ before.len + length text
+  pub fits : after.len ≤ length before.out.now

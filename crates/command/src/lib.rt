@@ -5,8 +5,10 @@
 pub mod lines;
 pub mod number;
 pub mod parse;
-mod sessions;
 mod text;
+
+ghost use Rattle.std.specs.Prelude.{◌≡◌};
+ghost use Rattle.command.specs.Sessions.{Ready, fresh_session};
 
 use planner::{Job, Jobs, Plan};
 
@@ -18,6 +20,8 @@ pub enum Command {
     Update { id: i32, earliest: i32, latest: i32 },
     Fit(i32),
     Rows,
+    // A line that says none of these.
+    // Stays as it is: a case and no `None`, since it is answered like any other.
     Unreadable,
 }
 
@@ -26,4 +30,16 @@ pub enum Command {
 pub struct Session {
     pub(crate) plan: Plan,
     pub(crate) jobs: Jobs,
+}
+
+impl Session {
+    // A session with a fresh plan and no jobs.
+    pub fn new() -> Session
+        ensures value { result ≡ fresh_session }
+        ensures ready { Ready result }
+    {
+        let plan = Plan::fresh();
+        let jobs = Jobs::empty();
+        Session { plan, jobs }
+    }
 }

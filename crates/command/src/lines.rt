@@ -1,15 +1,18 @@
 // Lines from bytes that arrive in pieces, and their answers.
-ghost use Rattle.std.specs.Prelude.{◌≡◌, [], ◌≤◌, length, take, drop};
+ghost use Rattle.std.specs.Prelude.{◌≡◌, [], ◌≤◌, length, drop};
 ghost use Rattle.time_table.specs.Held.{Held};
 ghost use Rattle.command.specs.Text.{longest};
-ghost use Rattle.command.specs.Lines.{reader_room, reader_of, grown, ReadyState, fresh_state, begun, Serves};
+ghost use Rattle.command.specs.Lines.{reader_room, reader_of, bytes_of, HeldLine, grown, ReadyState, fresh_state, begun, Serves};
 
 use crate::parse::command_of;
-use crate::{Command, Session, sessions, text};
-use planner::Jobs;
+use crate::text::{LONGEST, Writer};
+use crate::{Command, Session};
+use planner::{Answer, Jobs, Plan, Refusal, Updated, records};
 
 // The bytes of a line that is not complete, in `line` up to `len`. Past `Reader::LINE` one more byte is
 // kept, which makes the line too long to be read, and no others.
+// Stays as it is: an array with a count, without a heap. The byte past `Reader::LINE` says that the line is too long
+// (`grown` in specs/Lines.antt).
 #[derive(Clone, Copy)]
 pub struct Reader {
     pub(crate) line: [u8; Reader::ROOM],
@@ -17,6 +20,8 @@ pub struct Reader {
 }
 
 // A session, and the line that it is in the middle of.
+// Stays as it is: `ReadyState` is a clause and no invariant of the type, since `State::begun`, which
+// docs/PROMISES.md names, asks nothing of the line that was begun or of the kept jobs.
 #[derive(Clone, Copy)]
 pub struct State {
     pub(crate) session: Session,
@@ -43,22 +48,29 @@ impl Reader {
         ensures { result ≡ reader_of [] }
     {
         Reader {
-            line: [0u8; Reader::ROOM],
+            line: [0; Reader::ROOM],
             len: 0,
         }
     }
-}
 
-// Puts a byte behind a line, unless that is too long already, and gives the line's length.
-pub(crate) fn push(line: &mut [u8], len: usize, byte: u8) -> usize
-    requires { Held reader_room 0 line.old len (take len line.old) }
-    ensures { Held reader_room 0 line.new result (grown (take len line.old) byte) }
-{
-    if len < Reader::ROOM {
-        line[len] = byte;
-        return len + 1;
+    // The bytes of the line.
+    pub(crate) fn bytes(&self) -> &[u8]
+        requires { HeldLine self.now }
+        ensures { result.now ≡ bytes_of self.now }
+    {
+        &self.line[..self.len]
     }
-    len
+
+    // Puts a byte behind the line, unless that is too long already.
+    pub(crate) fn push(&mut self, byte: u8)
+        requires { HeldLine self.old }
+        ensures { Held reader_room 0 self.new.line self.new.len (grown (bytes_of self.old) byte) }
+    {
+        if self.len < Reader::ROOM {
+            self.line[self.len] = byte;
+            self.len += 1;
+        }
+    }
 }
 
 impl State {
@@ -74,8 +86,8 @@ impl State {
     }
 
     // Whether a line is begun.
-    pub fn begun(self) -> bool
-        ensures { result ≡ begun self }
+    pub fn begun(&self) -> bool
+        ensures { result ≡ begun self.now }
     {
         0 < self.reader.len
     }
@@ -89,54 +101,53 @@ impl State {
         ensures serves { Serves self (drop from chunk.now) from result out.old out.new }
         ensures ready_state_2 { ReadyState result.state }
     {
-        let mut last = sessions::unanswered(self.session.plan);
+        let mut last = Updated {
+            plan: self.session.plan,
+            answer: Ok(Answer::Fits),
+            row: records::no_record(),
+        };
         let mut jobs = self.session.jobs;
-        let mut line = self.reader.line;
-        let mut len = self.reader.len;
-        let mut at = from;
-        let mut used = 0;
-        while at < chunk.len() && used + text::LONGEST <= out.len() {
-            let byte = chunk[at];
-            at += 1;
-            if byte != b'\n' {
-                len = push(&mut line, len, byte);
-            } else {
-                let command = command_of(&line[..len]);
-                line = [0u8; Reader::ROOM];
-                len = 0;
-                match command {
-                    Command::Load(capacity) => {
-                        last = sessions::load(last.plan, jobs, capacity);
-                        jobs = Jobs::empty();
-                        let answer = last.answer;
-                        used = text::put_answer(out, used, answer, last.row);
-                    }
-                    Command::Update {
-                        id,
-                        earliest,
-                        latest,
-                    } => {
-                        last = last.plan.update(id, earliest, latest);
-                        let answer = last.answer;
-                        used = text::put_answer(out, used, answer, last.row);
-                    }
-                    _ => {
-                        used = sessions::tell(last.plan, jobs.count, command, out, used);
-                        if let Command::Keep(job) = command {
-                            jobs = sessions::keep(jobs, job);
-                        }
-                    }
+        let mut reader = self.reader;
+        let mut next = from;
+        let mut answers = Writer::new(out);
+        for byte in chunk.get(from..).unwrap_or(&[]) {
+            if answers.out.len() < answers.len + LONGEST {
+                break;
+            }
+            next += 1;
+            if *byte != b'\n' {
+                reader.push(*byte);
+                continue;
+            }
+            let command = command_of(reader.bytes());
+            reader = Reader::empty();
+            match command {
+                Command::Keep(job) if jobs.count < Plan::JOBS => jobs = jobs.keep(job),
+                Command::Keep(_) => answers.put_refusal(Refusal::TooManyJobs),
+                Command::Load(capacity) => {
+                    last = Updated::from(last.plan.load(jobs, capacity));
+                    jobs = Jobs::empty();
+                    answers.put_answer(last.answer, last.row);
                 }
+                Command::Update {
+                    id,
+                    earliest,
+                    latest,
+                } => {
+                    last = last.plan.update(id, earliest, latest);
+                    answers.put_answer(last.answer, last.row);
+                }
+                Command::Fit(id) => answers.put_fit(last.plan.first_fit(id)),
+                Command::Rows => answers.put_table(last.plan.rows()),
+                Command::Unreadable => answers.put_refusal(Refusal::Unreadable),
             }
         }
         let plan = last.plan;
+        let session = Session { plan, jobs };
         Served {
-            state: State {
-                session: Session { plan, jobs },
-                reader: Reader { line, len },
-            },
-            next: at,
-            len: used,
+            state: State { session, reader },
+            next,
+            len: answers.len,
         }
     }
 }

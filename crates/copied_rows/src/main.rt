@@ -2,50 +2,27 @@
 // none since the table is stale. It writes a line for each: the answer, and each place's height.
 #![tactic(auto)]
 
-ghost use Rattle.planner.specs.Sound.{Sound};
-
-use lent::Copied;
 use lent::rows::copy_rows;
-use planner::{Checked, Job, Jobs, Plan, RowRecord};
+use planner::{Job, Jobs, Plan, Refusal, RowRecord};
 use std::io;
 
-// Writes A and the count or R and the refusal's number, and the heights of three rows.
-fn show(rt: &impl Print, copied: Copied, first: u64, second: u64, third: u64) -> io::Result<()> {
-    let answer = copied.answer;
-    match answer {
-        Checked::Accepted => {
-            let count = copied.count;
-            print!(rt; "A {count}")?;
-        }
-        Checked::Refused(why) => {
-            let number = why.number();
-            print!(rt; "R {number}")?;
-        }
+// Writes A and the count or R and the refusal's number, and the height of each place.
+fn show(rt: &impl Print, copied: Result<usize, Refusal>, places: &[RowRecord]) -> io::Result<()> {
+    match copied {
+        Ok(count) => print!(rt; "A {count}")?,
+        Err(why) => print!(rt; "R {}", why.number())?,
     }
-    println!(rt; " {first} {second} {third}")
-}
-
-// Writes what three places hold, and what the copy to them answered.
-fn show_places(rt: &impl Print, copied: Copied, places: [RowRecord; 3]) -> io::Result<()> {
-    let first = places[0];
-    let second = places[1];
-    let third = places[2];
-    show(
-        rt,
-        copied,
-        first.height as u64,
-        second.height as u64,
-        third.height as u64,
-    )
+    for place in places {
+        print!(rt; " {}", place.height)?;
+    }
+    println!(rt)
 }
 
 // Lends three places to a copy of the plan's rows.
-fn copy_three(rt: &impl Print, plan: Plan, places: [RowRecord; 3]) -> io::Result<()>
-    requires { Sound plan }
-{
-    let mut lent = places;
-    let copied = copy_rows(plan, &mut lent);
-    show_places(rt, copied, lent)
+fn copy_three(rt: &impl Print, plan: Plan, mark: RowRecord) -> io::Result<()> {
+    let mut places = [mark; 3];
+    let copied = copy_rows(plan, &mut places);
+    show(rt, copied, &places)
 }
 
 // A job that must run from `start` on.
@@ -65,20 +42,19 @@ fn main(rt: HostRuntime) -> io::Result<()> {
         start: 0,
         end: 0,
         height: 7,
-        ids: [0u8; 32],
+        ids: [0u8; RowRecord::IDS],
         count: 0,
     };
-    let places = [mark; 3];
-    copy_three(&rt, Plan::fresh(), places)?;
+    copy_three(&rt, Plan::fresh(), mark)?;
     let mut jobs = Jobs::empty().keep(job(0, 3, 1));
     let one = Plan::fresh().load(jobs, 5);
-    copy_three(&rt, one.plan, places)?;
+    copy_three(&rt, one.plan, mark)?;
     jobs = jobs.keep(job(1, 1, 1));
     let three = Plan::fresh().load(jobs, 5);
-    copy_three(&rt, three.plan, places)?;
+    copy_three(&rt, three.plan, mark)?;
     jobs = jobs.keep(job(9, 1, 5));
     let four = Plan::fresh().load(jobs, 5);
-    copy_three(&rt, four.plan, places)?;
+    copy_three(&rt, four.plan, mark)?;
     let stale = Plan::fresh().load(jobs, 4);
-    copy_three(&rt, stale.plan, places)
+    copy_three(&rt, stale.plan, mark)
 }

@@ -1,17 +1,18 @@
 -- The candidate from row to row: where it moves and where it stays. It never goes back, and no row behind the run from it moves it.
 -- Assumes nothing.
 use mathlib.Core.Path.{◌≡◌, refl, sym, ◌∙◌}
-use mathlib.Core.Bool.{true, and-false}
+use mathlib.Core.Bool.{and-false}
 use mathlib.Core.Logic.{⊎_elim}
 use mathlib.Core.List.{List, [], ◌∷◌}
-use Prim.Native.Nat.{ℕ, ◌+◌, ◌≤◌, ◌<◌}
+use Prim.Native.Nat.{ℕ, ◌+◌, ◌≤◌, ◌<◌, max}
 use native.Mathlib.Omega.{arith}
+use Rattle.std.proofs.Common.{Some, None}
 use borrow.Author.Tests.{lt-ltb, le-ltb, le-leb, lt-leb}
 use Rattle.time_table.specs.declared.Row.{Row}
 use Rattle.time_table.specs.Order.{Ordered}
 use Rattle.time_table.proofs.Sums.{lt_or_le}
 use Rattle.fit.specs.declared.Asked.{Asked}
-use Rattle.fit.specs.FirstFit.{seen, moved, settled, answer, none_found, first_fit}
+use Rattle.fit.specs.FirstFit.{seen, moved, settled, answer, first_fit}
 
 module _ (asked : Asked) (capacity s : ℕ) (r : Row) where
   -- a row that ends before the candidate, one that starts behind the run, and one that is not too high leave it
@@ -31,6 +32,11 @@ module _ (asked : Asked) (capacity s : ℕ) (r : Row) where
   pub moved_behind : r.start < s + asked.run → s ≤ r.end → capacity < seen asked r + asked.usage → moved asked capacity s r ≡ r.end + 1
   unfolding moved
   moved_behind l h high = rw (lt-ltb r.start (s + asked.run) l, le-leb s r.end h, lt-ltb capacity (seen asked r + asked.usage) high)
+
+  -- so a row that is too high and does not start behind the run moves it behind itself, unless it is there
+  pub moved_high : r.start < s + asked.run → capacity < seen asked r + asked.usage → moved asked capacity s r ≡ max s (r.end + 1)
+  moved_high l high =
+      ⊎_elim (λ (h : r.end < s). omega (arith, moved_after h)) (λ (h : s ≤ r.end). omega (arith, moved_behind l h high)) (lt_or_le r.end s)
 
   -- the four cases
   pub by_row : {P : Type 0} → (r.end < s → P) → (s + asked.run ≤ r.start → P) → (seen asked r + asked.usage ≤ capacity → P)
@@ -53,11 +59,11 @@ module _ (asked : Asked) (capacity s : ℕ) (r : Row) where
 
 module _ (asked : Asked) where
   -- the answer, by cases
-  pub answer_found : (s : ℕ) → s ≤ asked.latest → answer asked s ≡ record { found = true; start = s }
+  pub answer_found : (s : ℕ) → s ≤ asked.latest → answer asked s ≡ Some s
   unfolding answer
   answer_found s h = rw (le-leb s asked.latest h)
 
-  pub answer_none : (s : ℕ) → asked.latest < s → answer asked s ≡ none_found
+  pub answer_none : (s : ℕ) → asked.latest < s → answer asked s ≡ None
   unfolding answer
   answer_none s h = rw (lt-leb s asked.latest h)
 
@@ -80,7 +86,7 @@ module _ (asked : Asked) (capacity : ℕ) where
       answer_none asked (settled asked capacity s rows) (omega (arith, settled_grows s rows)) ∙ sym (answer_none asked s h)
 
   -- the first fit, by cases
-  pub over_none : (rows : List Row) → capacity < asked.usage → first_fit asked capacity rows ≡ none_found
+  pub over_none : (rows : List Row) → capacity < asked.usage → first_fit asked capacity rows ≡ None
   unfolding first_fit
   over_none rows h = rw (lt-ltb capacity asked.usage h)
 

@@ -1,29 +1,28 @@
 -- The computed first fit is the first fit over instants, and nothing else is. A row that moves the candidate has an instant in the run
 -- from every start that is passed over; and where the candidate comes to rest no row that is too high meets its run.
 -- Assumes nothing.
-use mathlib.Core.Path.{◌≡◌, refl, sym, ◌∙◌}
-use mathlib.Core.Bool.{Bool, true, false, true≢false, false≢true}
+use mathlib.Core.Path.{◌≡◌, refl, subst, ap}
 use mathlib.Core.Logic.{⊎_elim}
 use mathlib.Core.List.{List, [], ◌∷◌}
 use Prim.Native.Nat.{ℕ, ◌+◌, ◌≤◌, ◌<◌, max}
 use native.Mathlib.Omega.{arith}
+use Rattle.std.proofs.Common.{Option, Some, None}
 use Rattle.time_table.specs.declared.Row.{Row}
 use Rattle.time_table.specs.Order.{Ordered}
 use Rattle.time_table.specs.Meaning.{summed}
 use Rattle.time_table.proofs.Sums.{has_in, has_below, has_above, by_place, lt_or_le}
 use Rattle.time_table.proofs.AtRow.{summed_before}
 use Rattle.fit.specs.declared.Asked.{Asked}
-use Rattle.fit.specs.declared.Fit.{Fit}
 use Rattle.fit.specs.Fits.{Fits, IsFit, IsFirst, NoFit, IsFirstFit}
-use Rattle.fit.specs.FirstFit.{seen, moved, settled, none_found, first_fit}
+use Rattle.fit.specs.FirstFit.{seen, moved, settled, first_fit}
 use Rattle.fit.proofs.CandidateStart.{moved_after, moved_before, moved_under, moved_behind, by_row, settled_grows, settled_before, answer_found, answer_none, over_none, room_some}
 
 -- the two kinds of answer
-none_is : {rows : List Row} {capacity : ℕ} {asked : Asked} → NoFit rows capacity asked → IsFirstFit rows capacity asked none_found
-none_is w = record { some = λ e. absurd (false≢true e); none = λ e. (w, refl) }
+none_is : {rows : List Row} {capacity : ℕ} {asked : Asked} → NoFit rows capacity asked → IsFirstFit rows capacity asked None
+none_is w = record { some = λ s e. absurd (cc); none = λ e. w }
 
-first_is : {rows : List Row} {capacity : ℕ} {asked : Asked} {s : ℕ} → IsFirst rows capacity asked s → IsFirstFit rows capacity asked (record { found = true; start = s })
-first_is w = record { some = λ e. w; none = λ e. absurd (true≢false e) }
+first_is : {rows : List Row} {capacity : ℕ} {asked : Asked} {s : ℕ} → IsFirst rows capacity asked s → IsFirstFit rows capacity asked (Some s)
+first_is {s = s} w = record { some = λ s' e. let same : s ≡ s' = cc in subst (IsFirst _ _ _) same w; none = λ e. absurd (cc) }
 
 module _ (asked : Asked) (capacity hi : ℕ) where
   -- a row that meets the run from where the candidate comes to rest is not too high
@@ -97,17 +96,12 @@ module _ (asked : Asked) (capacity hi : ℕ) where
       passed s w lt = settled_least lo asked.earliest rows o some s w.early lt w.fits
 
 -- two answers that are the first fit are equal
-pub first_fit_unique : (rows : List Row) (capacity : ℕ) (asked : Asked) (f g : Fit) → IsFirstFit rows capacity asked f → IsFirstFit rows capacity asked g → f ≡ g
-first_fit_unique rows capacity asked f g a b = go f.found g.found refl refl
-  where
-    same : f.found ≡ g.found → f.start ≡ g.start → f ≡ g
-    same p q i = record { found = p i; start = q i }
-
-    go : (x y : Bool) → f.found ≡ x → g.found ≡ y → f ≡ g
-    go true true p q =
-        let v = a.some p in
-        let w = b.some q in
-        same (p ∙ sym q) (omega (arith, v.least g.start w.fit, w.least f.start v.fit))
-    go true false p q = absurd ((b.none q).0 f.start (a.some p).fit)
-    go false true p q = absurd ((a.none p).0 g.start (b.some q).fit)
-    go false false p q = same (p ∙ sym q) ((a.none p).1 ∙ sym (b.none q).1)
+pub first_fit_unique : (rows : List Row) (capacity : ℕ) (asked : Asked) (f g : Option ℕ) → IsFirstFit rows capacity asked f → IsFirstFit rows capacity asked g → f ≡ g
+first_fit_unique rows capacity asked None None a b = refl
+first_fit_unique rows capacity asked None (Some t) a b = absurd (a.none refl t (b.some t refl).fit)
+first_fit_unique rows capacity asked (Some s) None a b = absurd (b.none refl s (a.some s refl).fit)
+first_fit_unique rows capacity asked (Some s) (Some t) a b =
+    let v = a.some s refl in
+    let w = b.some t refl in
+    let same : s ≡ t = omega (arith, v.least t w.fit, w.least s v.fit) in
+    ap Some same

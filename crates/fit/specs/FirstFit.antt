@@ -1,11 +1,10 @@
 -- First fit, computed row by row: a row that meets the run from the candidate and is too high moves the candidate behind itself.
-use Rattle.std.specs.Prelude.{Bool, true, false, cond, ◌&&◌, List, [], ◌∷◌, ℕ, ◌+◌, ◌<◌, ◌^◌, ltb, leb}
+use Rattle.std.specs.Prelude.{Bool, cond, ◌&&◌, Option, Some, None, List, [], ◌∷◌, ℕ, ◌+◌, ◌<◌, ◌^◌, ltb, leb}
 use Rattle.time_table.specs.declared.Row.{Row}
 use Rattle.time_table.specs.declared.Table.{Table}
 use Rattle.time_table.specs.Order.{Arranged}
 use Rattle.time_table.specs.Overlap.{overlaps}
 use Rattle.fit.specs.declared.Asked.{Asked}
-use Rattle.fit.specs.declared.Fit.{Fit}
 
 -- what a task that asks sees of a row's height: all of it
 abbrev pub seen : Asked → Row → ℕ
@@ -24,16 +23,13 @@ unfoldable pub settled : Asked → ℕ → ℕ → List Row → ℕ
 settled asked capacity s [] = s
 settled asked capacity s (r ∷ rs) = settled asked capacity (moved asked capacity s r) rs
 
-abbrev pub none_found : Fit
-none_found = record { found = false; start = 0 }
-
 -- the candidate, if it is within the bounds
-unfoldable pub answer : Asked → ℕ → Fit
-answer asked s = cond (leb s asked.latest) (record { found = true; start = s }) none_found
+unfoldable pub answer : Asked → ℕ → Option ℕ
+answer asked s = cond (leb s asked.latest) (Some s) None
 
 -- a task that draws more than the capacity fits nowhere, and else the first candidate is the earliest start
-unfoldable pub first_fit : Asked → ℕ → List Row → Fit
-first_fit asked capacity rows = cond (ltb capacity asked.usage) none_found (answer asked (settled asked capacity asked.earliest rows))
+unfoldable pub first_fit : Asked → ℕ → List Row → Option ℕ
+first_fit asked capacity rows = cond (ltb capacity asked.usage) None (answer asked (settled asked capacity asked.earliest rows))
 
 -- what a question asks of its table and its numbers: rows in order, and that a run from the latest start ends within the ticks
 pub record Askable (table : Table) (asked : Asked) : Type 0 where

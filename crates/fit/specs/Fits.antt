@@ -1,9 +1,8 @@
 -- What it is to fit, instant by instant, and to be the first fit.
-use Rattle.std.specs.Prelude.{true, false, ◌≡◌, List, ℕ, ◌+◌, ◌≤◌, ◌<◌}
+use Rattle.std.specs.Prelude.{◌≡◌, Option, Some, None, List, ℕ, ◌+◌, ◌≤◌, ◌<◌}
 use Rattle.time_table.specs.declared.Row.{Row}
 use Rattle.time_table.specs.Meaning.{height_at}
 use Rattle.fit.specs.declared.Asked.{Asked}
-use Rattle.fit.specs.declared.Fit.{Fit}
 
 -- at every instant of the run from s, table height plus the task's usage is at most the capacity (height is 0 where no row is)
 abbrev pub Fits : List Row → ℕ → Asked → ℕ → Type 0
@@ -24,7 +23,7 @@ pub record IsFirst (rows : List Row) (capacity : ℕ) (asked : Asked) (s : ℕ) 
 abbrev pub NoFit : List Row → ℕ → Asked → Type 0
 NoFit rows capacity asked = (s : ℕ) → IsFit rows capacity asked s → ⊥
 
--- the answer is the first fit: the smallest such start, or none, with start 0, if there is no such start
-pub record IsFirstFit (rows : List Row) (capacity : ℕ) (asked : Asked) (f : Fit) : Type 0 where
-  pub some : f.found ≡ true → IsFirst rows capacity asked f.start
-  pub none : f.found ≡ false → NoFit rows capacity asked × (f.start ≡ 0)
+-- the answer is the first fit: the smallest such start, or none if there is no such start
+pub record IsFirstFit (rows : List Row) (capacity : ℕ) (asked : Asked) (f : Option ℕ) : Type 0 where
+  pub some : (s : ℕ) → f ≡ Some s → IsFirst rows capacity asked s
+  pub none : f ≡ None → NoFit rows capacity asked

@@ -10,19 +10,13 @@ use time_table::{Row, Table};
 
 // What a task asks with: the bounds of its start, both in it, how many instants it runs and what it
 // draws at each.
+// Stays as it is: these are the numbers of a task of `sweep`, which this crate does not know.
 #[derive(Clone, Copy)]
 pub struct Asked {
     pub earliest: u32,
     pub latest: u32,
     pub run: u32,
     pub usage: u32,
-}
-
-// The start that was found; or none, and 0.
-#[derive(Clone, Copy)]
-pub struct Fit {
-    pub found: bool,
-    pub start: u32,
 }
 
 // Whether a row is too high for the task that asks.
@@ -34,47 +28,31 @@ fn blocks(row: Row, asked: Asked, capacity: u32) -> bool
 }
 
 // The answer from where the candidate comes to rest: none, if that is past the bounds.
-fn answer(asked: Asked, start: u32) -> Fit
+#[tactic(auto, unfolding(crate::specs::FirstFit::answer))]
+fn answer(asked: Asked, start: u32) -> Option<u32>
     ensures { result ≡ answer asked start }
 {
-    if start <= asked.latest {
-        return Fit { found: true, start };
-    }
-    Fit {
-        found: false,
-        start: 0,
-    }
+    (start <= asked.latest).then_some(start)
 }
 
 // The smallest start within the bounds at which the run fits, or none. A row that does not block is
 // passed over; one that blocks moves the candidate behind itself, unless the row ends before it. The
 // pass ends early where a row blocks and the candidate is past the bounds, or the row starts behind the
 // run from it.
-pub fn first_fit(table: Table, asked: Asked, capacity: u32) -> Fit
-    requires { Askable table asked }
-    ensures { result ≡ first_fit asked capacity (rows_of table) }
+pub fn first_fit(table: &Table, asked: Asked, capacity: u32) -> Option<u32>
+    requires { Askable table.now asked }
+    ensures { result ≡ first_fit asked capacity (rows_of table.now) }
 {
     if capacity < asked.usage {
-        return Fit {
-            found: false,
-            start: 0,
-        };
+        return None;
     }
     let mut start = asked.earliest;
-    let mut at = 0;
-    while at < table.count {
-        let row = table.rows[at];
-        at += 1;
-        if blocks(row, asked, capacity) {
-            if asked.latest < start {
+    for row in &table.rows[..table.count] {
+        if blocks(*row, asked, capacity) {
+            if asked.latest < start || start + asked.run <= row.start {
                 return answer(asked, start);
             }
-            if start + asked.run <= row.start {
-                return answer(asked, start);
-            }
-            if start <= row.end {
-                start = row.end + 1;
-            }
+            start = start.max(row.end + 1);
         }
     }
     answer(asked, start)

@@ -8,20 +8,12 @@ use std::io;
 
 // Writes what the last change answered: F, O and the height of the row that is too high, or R and
 // the refusal's number.
-fn show(rt: &impl Print, controller: Controller) -> io::Result<()> {
+fn show(rt: &impl Print, controller: &Controller) -> io::Result<()> {
     let last = controller.last;
-    let answer = last.answer;
-    let row = last.row;
-    match answer {
-        Answer::Fits => println!(rt; "F 0"),
-        Answer::Overloaded => {
-            let height = row.height;
-            println!(rt; "O {height}")
-        }
-        Answer::Refused(why) => {
-            let number = why.number();
-            println!(rt; "R {number}")
-        }
+    match last.answer {
+        Ok(Answer::Fits) => println!(rt; "F 0"),
+        Ok(Answer::Overloaded) => println!(rt; "O {}", last.row.height),
+        Err(why) => println!(rt; "R {}", why.number()),
     }
 }
 
@@ -36,17 +28,17 @@ fn main(rt: HostRuntime) -> io::Result<()> {
     };
     let jobs = Jobs::empty().keep(job);
     let mut kept = begin(Controller::fresh(), jobs, 2);
-    show(&rt, kept)?;
+    show(&rt, &kept)?;
     kept = step(kept, 0, 5, 5);
-    show(&rt, kept)?;
+    show(&rt, &kept)?;
     kept = step(kept, 1, 5, 5);
-    show(&rt, kept)?;
+    show(&rt, &kept)?;
     kept = step(kept, 0, -1000000001, 5);
-    show(&rt, kept)?;
+    show(&rt, &kept)?;
     kept = step(kept, 0, 6, 5);
-    show(&rt, kept)?;
+    show(&rt, &kept)?;
     kept = begin(kept, jobs, -1);
-    show(&rt, kept)?;
+    show(&rt, &kept)?;
     kept = step(kept, 0, 0, 10);
-    show(&rt, kept)
+    show(&rt, &kept)
 }

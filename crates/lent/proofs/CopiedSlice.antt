@@ -2,21 +2,14 @@
 -- behind those that are there.
 -- Assumes nothing.
 use mathlib.Core.Path.{◌≡◌, refl, sym, ap, ◌∙◌}
-use mathlib.Core.Bool.{Bool, true, false}
 use mathlib.Core.List.{List, [], ◌∷◌, ◌++◌}
-use Prim.Native.Nat.{ℕ, zero, suc, ◌≤◌, zero-le}
-use native.Mathlib.Nat.{le_refl}
+use Prim.Native.Nat.{ℕ, zero, suc, ◌≤◌}
 use native.Mathlib.Omega.{arith}
-use lib.Dec.{T, leb, leb→le}
-use lib.ListN.{length, get_or, take, drop, length-set}
-use lib.Seq.{take-suc, take-suc-set, drop-set-lt}
+use lib.ListN.{length, get_or, take, drop, length-set, take-append-drop}
+use lib.Seq.{take-length, take-suc, take-suc-set, drop-set-lt}
 use Rattle.planner.specs.declared.RowRecord.{RowRecord}
-use Rattle.planner.specs.declared.Rows.{Rows}
-use Rattle.planner.specs.declared.Refusal.{Refusal}
-use Rattle.planner.specs.declared.Checked.{Checked}
-use Rattle.planner.specs.Checks.{unless, ◌then◌}
 use Rattle.planner.specs.Records.{no_row}
-use Rattle.lent.specs.Copies.{copied_by, copy_answer, row_for, copied}
+use Rattle.lent.specs.Copies.{row_for, copied}
 
 pub copied_length : (xs : List RowRecord) (n : ℕ) (ys : List RowRecord) → length (copied xs n ys) ≡ length ys
 copied_length xs zero ys = refl
@@ -38,16 +31,10 @@ pub copied_others : (xs : List RowRecord) (n : ℕ) (ys : List RowRecord) (k : �
 copied_others xs zero ys k h = refl
 copied_others xs (suc i) ys k h = drop-set-lt k (copied xs i ys) i _ h ∙ copied_others xs i ys k (omega arith)
 
--- a count is copied where the answer is no refusal, and then it fits
-by_places : (answer : Checked) (why : Refusal) (test : Bool) (n l : ℕ) → (T test → n ≤ l) → (copied_by (answer then unless why test) n).count ≤ l
-by_places Checked.Accepted why true n l h = omega (arith, h tt)
-by_places Checked.Accepted why false n l h = zero-le
-by_places (Checked.Refused other) why test n l h = zero-le
-
-pub count_places : (rows : Rows) (l : ℕ) → (copy_answer rows l).count ≤ l
-unfolding copy_answer
-count_places rows l = by_places rows.answer _ (leb rows.count l) rows.count l (leb→le rows.count l)
-
-pub count_rows : (rows : Rows) (l : ℕ) → (copy_answer rows l).count ≤ rows.count
-unfolding copy_answer
-count_rows rows l = by_places rows.answer _ (leb rows.count l) rows.count rows.count (λ _. le_refl rows.count)
+-- so as many rows as there are lie over the first places
+pub copied_laid : (xs ys : List RowRecord) → length xs ≤ length ys → copied xs (length xs) ys ≡ xs ++ drop (length xs) ys
+copied_laid xs ys h =
+    let n = length xs in
+    let c = copied xs n ys in
+    sym (take-append-drop n c)
+    ∙ (λ i. (copied_first xs n ys (omega arith) h ∙ take-length xs) i ++ copied_others xs n ys n (omega arith) i)

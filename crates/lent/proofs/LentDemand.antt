@@ -3,16 +3,17 @@
 -- Assumes nothing.
 use mathlib.Core.Path.{◌≡◌, refl, sym, ap, ◌∙◌, subst}
 use mathlib.Core.List.{List}
+use Prim.Native.Nat.{ℕ}
 use lib.ListN.{take}
+use Rattle.std.specs.Prelude.{Result, Ok}
 use Rattle.planner.specs.declared.Plan.{Plan}
 use Rattle.planner.specs.declared.Updated.{Updated}
 use Rattle.planner.specs.declared.RowRecord.{RowRecord}
-use Rattle.planner.specs.declared.Checked.TheVariants.{Accepted}
+use Rattle.planner.specs.declared.Refusal.{Refusal}
 use Rattle.planner.specs.Answers.{fresh_plan}
 use Rattle.planner.specs.History.{Call, without_places, outcome, plan_after}
 use Rattle.planner.specs.Demand.{DemandedAfter}
 use Rattle.planner.proofs.Histories.{rows_demanded}
-use Rattle.lent.specs.declared.Copied.{Copied}
 use Rattle.lent.specs.declared.controller.Controller.{Controller}
 use Rattle.lent.specs.Controllers.{last_update}
 use Rattle.lent.specs.Promises.{CopyPromise}
@@ -41,6 +42,6 @@ pub controller_plan : {calls : List Call} {c : Controller} → ControllerAfter c
 controller_plan {calls} a = calls_plan a.led ∙ ap (λ (c : Controller). plan_after c.plan calls) a.fresh.whole
 
 -- the rows that a copy leaves in the slice are as demanded after the calls
-pub copy_demanded : (calls : List Call) {before after : List RowRecord} {r : Copied} → CopyPromise (plan_after fresh_plan calls) before r after
-    → r.answer ≡ Accepted → DemandedAfter calls (take r.count after)
-copy_demanded calls kept taken = subst (DemandedAfter calls) (sym ((copy_places kept).first taken)) (rows_demanded calls (copy_shown kept taken))
+pub copy_demanded : (calls : List Call) {before after : List RowRecord} {r : Result ℕ Refusal} {n : ℕ} → CopyPromise (plan_after fresh_plan calls) before r after
+    → r ≡ Ok n → DemandedAfter calls (take n after)
+copy_demanded calls kept taken = subst (DemandedAfter calls) (sym ((copy_places kept).first _ taken)) (rows_demanded calls (copy_shown kept taken))

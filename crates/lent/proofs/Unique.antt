@@ -2,15 +2,17 @@
 -- Assumes nothing.
 use mathlib.Core.Path.{◌≡◌, sym, ap, ◌∙◌, subst}
 use mathlib.Core.List.{List}
+use Prim.Native.Nat.{ℕ}
 use lib.IntN.{ℤ}
+use Rattle.std.specs.Prelude.{Result}
 use Rattle.planner.specs.declared.Jobs.{Jobs}
+use Rattle.planner.specs.declared.Refusal.{Refusal}
 use Rattle.planner.specs.declared.Plan.{Plan}
 use Rattle.planner.specs.declared.Loaded.{Loaded}
 use Rattle.planner.specs.declared.Updated.{Updated}
 use Rattle.planner.specs.declared.RowRecord.{RowRecord}
 use Rattle.lent.specs.declared.Changed.{Changed}
 use Rattle.lent.specs.declared.Placing.{Placing}
-use Rattle.lent.specs.declared.Copied.{Copied}
 use Rattle.lent.specs.declared.controller.Controller.{Controller}
 use Rattle.lent.specs.Promises.{LentLoadPromise, LentUpdatePromise, CopyPromise, FreshControllerPromise, BeginPromise, StepPromise}
 use Rattle.lent.proofs.WithoutPlan.{changed_of, placing_of}
@@ -31,10 +33,10 @@ module _ (plan : Plan) where
       let same = p.whole ∙ sym q.whole in
       (ap changed_of same, ap (λ (u : Updated). u.plan) same)
 
-  pub copy_unique : (out : List RowRecord) {r s : Copied} {a b : List RowRecord} → CopyPromise plan out r a → CopyPromise plan out s b → (r ≡ s) × (a ≡ b)
+  pub copy_unique : (out : List RowRecord) {r s : Result ℕ Refusal} {a b : List RowRecord} → CopyPromise plan out r a → CopyPromise plan out s b → (r ≡ s) × (a ≡ b)
   copy_unique out {a = a} p q =
       let same = p.answer ∙ sym q.answer in
-      (same, (subst (λ (c : Copied). CopyPromise plan out c a) same p).slice ∙ sym q.slice)
+      (same, (subst (λ (c : Result ℕ Refusal). CopyPromise plan out c a) same p).slice ∙ sym q.slice)
 
 pub fresh_controller_unique : {r s : Controller} → FreshControllerPromise r → FreshControllerPromise s → r ≡ s
 fresh_controller_unique p q = p.whole ∙ sym q.whole

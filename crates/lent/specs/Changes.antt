@@ -8,5 +8,9 @@ use Rattle.lent.specs.declared.Placing.{Placing}
 abbrev pub whole_update : Changed → Plan → Updated
 whole_update r after = record { answer = r.answer; row = r.row; plan = after }
 
+-- of a load, what is answered of the plan
+abbrev pub told : Placing → Changed
+told p = record { answer = p.answer; row = p.row }
+
 abbrev pub whole_load : Placing → Plan → Loaded
 whole_load r after = record { answer = r.answer; row = r.row; placed = r.placed; plan = after }

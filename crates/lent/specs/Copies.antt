@@ -1,29 +1,22 @@
 -- A copy of a plan's rows to a lent slice: what it answers, and what the slice holds afterwards.
-use Rattle.std.specs.Prelude.{◌≡◌, List, ℕ, zero, suc, ◌≤◌, ◌<◌, leb, length, get_or, set, take, drop}
+use Rattle.std.specs.Prelude.{◌≡◌, cond, Result, Ok, Err, List, ℕ, zero, suc, ◌≤◌, ◌<◌, leb, length, get_or, set, take, drop}
 use Rattle.planner.specs.declared.RowRecord.{RowRecord}
 use Rattle.planner.specs.declared.Rows.{Rows}
 use Rattle.planner.specs.declared.Refusal.{Refusal}
 use Rattle.planner.specs.declared.Refusal.TheVariants.{ShortSlice}
-use Rattle.planner.specs.declared.Checked.{Checked}
-use Rattle.planner.specs.declared.Checked.TheVariants.{Accepted, Refused}
 use Rattle.planner.specs.Refusals.{Verdict, admitted, refused, verdict}
-use Rattle.planner.specs.Checks.{unless, ◌then◌}
 use Rattle.planner.specs.Questions.{shown_rows}
 use Rattle.planner.specs.Records.{no_row}
-use Rattle.lent.specs.declared.Copied.{Copied}
 
--- copying rows checks 9, 10
-abbrev pub copy_checked : Rows → ℕ → Checked
-copy_checked rows places = rows.answer then unless ShortSlice (leb rows.count places)
+-- the answer of a copy to a slice with so many places, checks 9, 10: how many rows are copied, all or none
+unfoldable pub copy_answer : Result Rows Refusal → ℕ → Result ℕ Refusal
+copy_answer (Ok rows) places = cond (leb rows.count places) (Ok rows.count) (Err ShortSlice)
+copy_answer (Err why) places = Err why
 
--- all n rows are copied, or none
-abbrev pub copied_by : Checked → ℕ → Copied
-copied_by Accepted n = record { answer = Accepted; count = n }
-copied_by (Refused why) n = record { answer = Refused why; count = 0 }
-
--- the answer of a copy to a slice with so many places
-unfoldable pub copy_answer : Rows → ℕ → Copied
-copy_answer rows places = copied_by (copy_checked rows places) rows.count
+-- how many rows are copied; refused, none
+abbrev pub copied_count : Result ℕ Refusal → ℕ
+copied_count (Ok n) = n
+copied_count (Err why) = 0
 
 -- the row that goes to the place i
 abbrev pub row_for : List RowRecord → ℕ → RowRecord
@@ -35,22 +28,22 @@ copied xs zero ys = ys
 copied xs (suc i) ys = set (copied xs i ys) i (row_for xs i)
 
 -- an answer as it is heard: admitted or refused with a number, and how many rows are copied
-abbrev pub CopyJudged : Copied → Verdict → ℕ → Type 0
-CopyJudged c v n = (verdict c.answer ≡ v) × (c.count ≡ n)
+abbrev pub CopyJudged : Result ℕ Refusal → Verdict → ℕ → Type 0
+CopyJudged r v n = (verdict r ≡ v) × (copied_count r ≡ n)
 
--- document 01's table: with which number a copy of these rows is refused, and when all are copied. It is judged exactly so, which is proved
--- (proofs/CopyGiven.antt)
-pub data CopyGiven (rows : Rows) (places : ℕ) : Verdict → ℕ → Type 0 where
-  stale : verdict rows.answer ≡ refused 9 → CopyGiven rows places (refused 9) 0
-  short : verdict rows.answer ≡ admitted → places < rows.count → CopyGiven rows places (refused 10) 0
-  all : verdict rows.answer ≡ admitted → rows.count ≤ places → CopyGiven rows places admitted rows.count
+-- the table of refusals 9 and 10: with which number a copy of these rows is refused, and when all are copied. It is judged exactly so, which is
+-- proved (proofs/CopyGiven.antt)
+pub data CopyGiven (shown : Result Rows Refusal) (places : ℕ) : Verdict → ℕ → Type 0 where
+  stale : verdict shown ≡ refused 9 → CopyGiven shown places (refused 9) 0
+  short : {rows : Rows} → shown ≡ Ok rows → places < rows.count → CopyGiven shown places (refused 10) 0
+  all : {rows : Rows} → shown ≡ Ok rows → rows.count ≤ places → CopyGiven shown places admitted rows.count
 
 -- what a caller finds in the slice
-pub record CopyPlaces (rows : Rows) (before : List RowRecord) (r : Copied) (after : List RowRecord) : Type 0 where
+pub record CopyPlaces (shown : Result Rows Refusal) (before : List RowRecord) (r : Result ℕ Refusal) (after : List RowRecord) : Type 0 where
   pub same_length : length after ≡ length before
   -- accepted: the first places, as many as are counted, hold the rows in order
-  pub first : r.answer ≡ Accepted → take r.count after ≡ shown_rows rows
-  pub counted : r.answer ≡ Accepted → length (shown_rows rows) ≡ r.count
+  pub first : (n : ℕ) → r ≡ Ok n → take n after ≡ shown_rows shown
+  pub counted : (n : ℕ) → r ≡ Ok n → length (shown_rows shown) ≡ n
   -- the other places hold what they held; refused, all do
-  pub others : drop r.count after ≡ drop r.count before
-  pub untouched : (why : Refusal) → r.answer ≡ Refused why → after ≡ before
+  pub others : drop (copied_count r) after ≡ drop (copied_count r) before
+  pub untouched : (why : Refusal) → r ≡ Err why → after ≡ before

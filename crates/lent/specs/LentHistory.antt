@@ -7,8 +7,7 @@ use Rattle.planner.specs.History.{Call, load, update}
 use Rattle.lent.specs.declared.Changed.{Changed}
 use Rattle.lent.specs.declared.Placing.{Placing}
 use Rattle.lent.specs.declared.controller.Controller.{Controller}
-use Rattle.lent.specs.Changes.{whole_update}
-use Rattle.lent.specs.Controllers.{told}
+use Rattle.lent.specs.Changes.{told, whole_update}
 use Rattle.lent.specs.Promises.{LentLoadPromise, LentUpdatePromise, FreshControllerPromise, BeginPromise, StepPromise}
 
 -- a call of a lent plan: what is answered, and the plan afterwards

@@ -1,11 +1,8 @@
 // A controller that keeps one plan and lends it to be changed.
-ghost use Rattle.std.specs.Prelude.{◌≡◌};
-ghost use Rattle.planner.specs.Sound.{Sound};
-ghost use Rattle.lent.specs.Controllers.{told};
 ghost use Rattle.lent.specs.Promises.{FreshControllerPromise, BeginPromise, StepPromise};
 
+use crate::Changed;
 use crate::in_place::{load_in_place, update_in_place};
-use crate::{Changed, Placing};
 use planner::{Answer, Jobs, Plan, records};
 
 // A controller: its plan, and what the last change of it answered.
@@ -20,40 +17,27 @@ impl Controller {
     pub fn fresh() -> Controller
         ensures { FreshControllerPromise result }
     {
-        let row = records::no_record();
         Controller {
             plan: Plan::fresh(),
             last: Changed {
-                answer: Answer::Fits,
-                row,
+                answer: Ok(Answer::Fits),
+                row: records::no_record(),
             },
         }
     }
 }
 
-// Of what a load answers, what a controller keeps.
-fn answer_of(placing: Placing) -> Changed
-    ensures { result ≡ told placing }
-{
-    let answer = placing.answer;
-    let row = placing.row;
-    Changed { answer, row }
-}
-
 // Lends the kept plan to a load, and keeps what it answers.
 pub fn begin(controller: Controller, jobs: Jobs, capacity: i32) -> Controller
-    requires { Sound controller.plan }
     ensures { BeginPromise controller jobs capacity result }
 {
     let mut kept = controller;
-    let placing = load_in_place(&mut kept.plan, jobs, capacity);
-    kept.last = answer_of(placing);
+    kept.last = Changed::from(load_in_place(&mut kept.plan, jobs, capacity));
     kept
 }
 
 // Lends the kept plan to an update, and keeps what it answers.
 pub fn step(controller: Controller, id: i32, earliest: i32, latest: i32) -> Controller
-    requires { Sound controller.plan }
     ensures { StepPromise controller id earliest latest result }
 {
     let mut kept = controller;

@@ -6,28 +6,39 @@ pub mod controller;
 pub mod in_place;
 pub mod rows;
 
-use planner::{Answer, Checked, RowRecord};
-use sweep::Tasks;
-use sweep::util::Placed;
+ghost use Rattle.std.specs.Prelude.{◌≡◌};
 
-// What a change of a lent plan answers: the answer, and the row that is too high, if one is.
+use planner::{Answer, Plan, Refusal, RowRecord};
+
+// What a change of a lent plan answers: the answer or why it is refused, and the row that is too high,
+// if one is.
+// Stays as it is: the row stands beside the answer, and not in it, as docs/SCOPE.md has it (Forms).
 #[derive(Clone, Copy)]
 pub struct Changed {
-    pub answer: Answer,
+    pub answer: Result<Answer, Refusal>,
     pub row: RowRecord,
 }
 
-// What a load of a lent plan answers: the same, and for each input job its id or that it was dropped.
+// What a load of a lent plan answers: the same, and for each input job its id, or none where it was
+// dropped.
+// Stays as it is: as `Changed` does.
 #[derive(Clone, Copy)]
 pub struct Placing {
-    pub answer: Answer,
+    pub answer: Result<Answer, Refusal>,
     pub row: RowRecord,
-    pub placed: [Placed; Tasks::ROOM],
+    pub placed: [Option<u8>; Plan::JOBS],
 }
 
-// What a copy of rows answers, and how many rows it copied.
-#[derive(Clone, Copy)]
-pub struct Copied {
-    pub answer: Checked,
-    pub count: usize,
+impl From<Placing> for Changed {
+    ghost use Rattle.lent.specs.Changes.{told};
+
+    ghost from_gives = { λ placing changed. changed ≡ told placing };
+
+    // What a load answers without what became of its jobs.
+    fn from(placing: Placing) -> Changed {
+        Changed {
+            answer: placing.answer,
+            row: placing.row,
+        }
+    }
 }

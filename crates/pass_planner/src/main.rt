@@ -2,31 +2,24 @@
 // status whether all its input was answered.
 #![tactic(auto)]
 
-ghost use Rattle.std.specs.Prelude.{◌≡◌};
+ghost use Rattle.std.specs.Prelude.{pos};
+ghost use Rattle.std.specs.Process.{exit_status};
 ghost use Rattle.terminal.specs.Endings.{Status};
 
 use std::process::ExitCode;
 use terminal::Ending;
 
-// Says on standard error why not all input was answered.
-fn complain<R: Eprint>(rt: &R, ending: Ending) {
-    let _ = match ending {
-        Ending::Over => Ok(()),
-        Ending::Unread => rt.eprintln("pass_planner: standard input could not be read"),
-        Ending::Unwritten => rt.eprintln("pass_planner: an answer could not be written"),
-    };
-}
-
-// Answers all input, and gives the exit status.
-pub fn pass_planner<R: Input + Print + Eprint>(rt: &R) -> i32
-    ensures { Status result }
+// Answers all input, says on standard error why if some was not answered, and gives the exit status.
+pub fn pass_planner<R: Input + Print + Eprint>(rt: &R) -> ExitCode
+    ensures { Status (pos (exit_status result)) }
 {
     let ending = terminal::answer_input(rt);
-    complain(rt, ending);
-    ending.status()
+    if ending != Ending::Over {
+        let _ = eprintln!(rt; "pass_planner: {ending}");
+    }
+    ExitCode::from(ending)
 }
 
 fn main(rt: HostRuntime) -> ExitCode {
-    let status = pass_planner(&rt);
-    ExitCode::from(status as u8)
+    pass_planner(&rt)
 }

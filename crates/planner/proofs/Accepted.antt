@@ -1,5 +1,6 @@
 -- What an accepted check says of the numbers in ticks and amounts: they are in range, so each comes back from its tick or amount.
 -- Assumes nothing.
+use Rattle.std.specs.Prelude.{Ok}
 use mathlib.Core.Path.{◌≡◌, refl, sym, ap, ◌∙◌, subst}
 use mathlib.Core.Bool.{true}
 use Prim.Native.Nat.{ℕ, ◌≤◌}
@@ -8,7 +9,6 @@ use lib.Dec.{T}
 use lib.IntN.{ℤ, pos, nat_abs}
 use lib.Signed.{le_z, non_neg, le_z_yes, yes_non_neg, pos-nat_abs}
 use Rattle.planner.specs.declared.Job.{Job}
-use Rattle.planner.specs.declared.Checked.TheVariants.{Accepted}
 use Rattle.planner.specs.Refusals.{admitted, verdict}
 use Rattle.planner.specs.Ranges.{InRange, bounds, max_bound, max_duration, max_usage, max_capacity, last_start}
 use Rattle.planner.specs.Instants.{instant, tick, amount}
@@ -68,11 +68,11 @@ numbers_in (job_in g p q) = record { starts = bounds_in g; duration = amount_in 
 capacity_in_range : {c : ℤ} → CapacityGiven c admitted → Amount max_capacity c
 capacity_in_range (capacity_in p) = amount_in max_capacity p
 
-pub bounds_accepted : {e l : ℤ} → bounds_checked e l ≡ Accepted → Bounds e l
+pub bounds_accepted : {e l : ℤ} → bounds_checked e l ≡ Ok tt → Bounds e l
 bounds_accepted {e} {l} h = bounds_in ((bounds_exactly e l admitted).0 (ap verdict h))
 
-pub job_accepted : {j : Job} → job_checked j ≡ Accepted → Numbers j
+pub job_accepted : {j : Job} → job_checked j ≡ Ok tt → Numbers j
 job_accepted {j} h = numbers_in ((job_exactly j admitted).0 (ap verdict h))
 
-pub capacity_accepted : {c : ℤ} → capacity_checked c ≡ Accepted → Amount max_capacity c
+pub capacity_accepted : {c : ℤ} → capacity_checked c ≡ Ok tt → Amount max_capacity c
 capacity_accepted {c} h = capacity_in_range ((capacity_exactly c admitted).0 (ap verdict h))

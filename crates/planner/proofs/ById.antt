@@ -1,8 +1,9 @@
 -- The jobs as they were handed in, and the kept ones by id. Each id is told to one job, so a sum over the jobs that have one is a sum over the kept
 -- ones; the others draw nothing. A load makes them so, and an update changes both alike.
 -- Assumes nothing.
+use Rattle.std.specs.Prelude.{Option, Some, None, is_some, Ok}
 use mathlib.Core.Path.{◌≡◌, refl, sym, ap, ◌∙◌}
-use mathlib.Core.Bool.{Bool, true, false, cond, ◌&&◌}
+use mathlib.Core.Bool.{Bool, true, false, cond}
 use mathlib.Core.List.{List, [], ◌∷◌, map}
 use mathlib.Core.Logic.{⊎_elim}
 use Prim.Native.Nat.{ℕ, zero, suc, ◌+◌, ◌≤◌, ◌<◌}
@@ -17,19 +18,17 @@ use lib.Seq.{get_or-set_same, get_or-set_other}
 use Rattle.time_table.specs.Removal.{position}
 use Rattle.time_table.proofs.Totals.{position_is}
 use Rattle.sweep.specs.declared.Task.{Task}
-use Rattle.sweep.specs.declared.util.Placed.{Placed}
 use Rattle.sweep.specs.Tasks.{no_task, task_at}
 use Rattle.sweep.specs.Created.{keeps, in_order, created, dropped, placed_at, placed_below}
 use Rattle.sweep.proofs.CoveringTasks.{past_none}
 use Rattle.sweep.proofs.JobOrder.{in_order_low}
 use Rattle.sweep.proofs.Placed.{position_at, get_map, kept_placed, placed_get, order_occur, order_once, created_length, created_at, created_kept, job_numbered, numbers_differ}
 use Rattle.planner.specs.declared.Job.{Job}
-use Rattle.planner.specs.declared.Checked.TheVariants.{Accepted}
 use Rattle.planner.specs.Checks.{bounds_checked, jobs_checked}
 use Rattle.planner.specs.Given.{no_job}
 use Rattle.planner.specs.Loads.{task_of}
 use Rattle.planner.specs.Places.{Idle}
-use Rattle.planner.specs.History.{Heard, nothing, job_at, Told, rebounded, rebounding}
+use Rattle.planner.specs.History.{Heard, nothing, job_at, Told, rebounded, is_told, rebounding}
 use Rattle.planner.specs.Demand.{drawn_at, Identified, SomeJob}
 use Rattle.planner.proofs.Tests.{by_test}
 use Rattle.planner.proofs.Accepted.{Numbers, bounds_accepted, job_accepted}
@@ -39,12 +38,17 @@ use Rattle.planner.proofs.IndexSums.{sum_below, sum_same, sum_first, sum_total, 
 use Rattle.planner.proofs.IdleJobs.{drops_idle, draw, idle_draws}
 
 -- what was told of the job at the place p
-abbrev told_at : Heard → ℕ → Placed
+abbrev told_at : Heard → ℕ → Option ℕ
 told_at h p = get_or h.told p dropped
+
+-- what a number gives, where there is one
+abbrev of_told : Option ℕ → (ℕ → ℕ) → ℕ
+of_told None f = 0
+of_told (Some i) f = f i
 
 -- sums over the jobs that were told an id, and over the kept ones
 abbrev told_sum : Heard → (ℕ → Job → ℕ) → ℕ
-told_sum h f = sum_below (λ (p : ℕ). cond (told_at h p).kept (f (told_at h p).id (job_at h p)) 0) (length h.jobs)
+told_sum h f = sum_below (λ (p : ℕ). of_told (told_at h p) (λ (i : ℕ). f i (job_at h p))) (length h.jobs)
 
 abbrev kept_sum : List Job → (ℕ → Job → ℕ) → ℕ
 kept_sum js f = sum_below (λ (i : ℕ). f i (get_or js i no_job)) (length js)
@@ -54,7 +58,7 @@ pub record ById (h : Heard) (kept : List Job) : Type 0 where
   pub at : (p i : ℕ) → Told h p i → (i < length kept) × (get_or kept i no_job ≡ job_at h p)
   pub from : (i : ℕ) → i < length kept → SomeJob h i
   pub identified : Identified h
-  spare : (p : ℕ) → p < length h.jobs → (told_at h p).kept ≡ false → (t : ℤ) → draw t (job_at h p) ≡ 0
+  spare : (p : ℕ) → p < length h.jobs → told_at h p ≡ None → (t : ℤ) → draw t (job_at h p) ≡ 0
   sums : (f : ℕ → Job → ℕ) → told_sum h f ≡ kept_sum kept f
 
 -- what must be drawn is the same of both
@@ -63,14 +67,14 @@ unfolding drawn_at sum_below
 drawn_sum [] t = refl
 drawn_sum (j ∷ js) t = ap (λ (m : ℕ). draw t j + m) (drawn_sum js t) ∙ sym (sum_first (λ (p : ℕ). draw t (get_or (j ∷ js) p no_job)) (length js))
 
-or_none : (x : ℕ) (k : Bool) → (k ≡ false → x ≡ 0) → x ≡ cond k x 0
-or_none x true none = refl
-or_none x false none = none refl
+or_none : (x : ℕ) (o : Option ℕ) → (o ≡ None → x ≡ 0) → x ≡ of_told o (λ (i : ℕ). x)
+or_none x (Some i) none = refl
+or_none x None none = none refl
 
 pub drawn_kept : (h : Heard) (kept : List Job) → ById h kept → (t : ℤ) → drawn_at h.jobs t ≡ drawn_at kept t
 drawn_kept h kept b t =
     drawn_sum h.jobs t
-    ∙ sum_same _ _ (length h.jobs) (λ p lt. or_none (draw t (job_at h p)) (told_at h p).kept (λ e. b.spare p lt e t))
+    ∙ sum_same _ _ (length h.jobs) (λ p lt. or_none (draw t (job_at h p)) (told_at h p) (λ e. b.spare p lt e t))
     ∙ b.sums (λ (i : ℕ) (j : Job). draw t j)
     ∙ sym (drawn_sum kept t)
 
@@ -87,11 +91,11 @@ nothing_by_id =
     }
 
 -- a job is told that it is kept exactly if it is
-pub placed_kept : (ts : List Task) (p : ℕ) → (placed_at ts p).kept ≡ keeps (task_at ts p)
+pub placed_kept : (ts : List Task) (p : ℕ) → is_some (placed_at ts p) ≡ keeps (task_at ts p)
 unfolding placed_at
 placed_kept ts p = go (keeps (task_at ts p))
   where
-    go : (b : Bool) → (cond b (record { kept = true; id = position p (in_order ts) }) dropped).kept ≡ b
+    go : (b : Bool) → is_some (cond b (Some (position p (in_order ts))) dropped) ≡ b
     go true = refl
     go false = refl
 
@@ -99,7 +103,7 @@ placed_kept ts p = go (keeps (task_at ts p))
 abbrev pub kept_jobs : List Job → List Job
 kept_jobs js = map (λ (i : ℕ). get_or js i no_job) (in_order (map task_of js))
 
-module _ (capacity : ℤ) (js : List Job) (few : length js ≤ 32) (ok : jobs_checked js ≡ Accepted) where
+module _ (capacity : ℤ) (js : List Job) (few : length js ≤ 32) (ok : jobs_checked js ≡ Ok tt) where
   abbrev ts : List Task
   ts = map task_of js
 
@@ -123,11 +127,12 @@ module _ (capacity : ℤ) (js : List Job) (few : length js ≤ 32) (ok : jobs_ch
 
   -- a job that was told an id is kept, and the id is its place in the order
   told_kept : (p i : ℕ) → Told h p i → keeps (task_at ts p) ≡ true
-  told_kept p i told = sym (placed_kept ts p) ∙ ap (λ (x : Placed). x.kept) (sym (told_is p told.inside) ∙ told.id)
+  told_kept p i told = sym (placed_kept ts p) ∙ ap is_some (sym (told_is p told.inside) ∙ told.id)
 
   told_id : (p i : ℕ) → Told h p i → position p order ≡ i
   told_id p i told =
-      ap (λ (x : Placed). x.id) (sym (job_numbered ts p (told_kept p i told)).answer ∙ sym (told_is p told.inside) ∙ told.id)
+      let same : Some (position p order) ≡ Some i = sym (job_numbered ts p (told_kept p i told)).answer ∙ sym (told_is p told.inside) ∙ told.id in
+      cc
 
   kept_told : (p : ℕ) → p < length js → keeps (task_at ts p) ≡ true → Told h p (position p order)
   kept_told p lt k = record { inside = lt; id = told_is p lt ∙ (job_numbered ts p k).answer }
@@ -165,10 +170,10 @@ module _ (capacity : ℤ) (js : List Job) (few : length js ≤ 32) (ok : jobs_ch
             numbers_differ ts p q (told_kept p i told) (told_kept q i other) (told_id p i told ∙ sym (told_id q i other));
       }
 
-  dropped_draws : (p : ℕ) → p < length js → (told_at h p).kept ≡ false → (t : ℤ) → draw t (job_at h p) ≡ 0
+  dropped_draws : (p : ℕ) → p < length js → told_at h p ≡ None → (t : ℤ) → draw t (job_at h p) ≡ 0
   dropped_draws p lt e t =
       idle_draws (get_or js p no_job) (job_numbers p lt)
-      (drops_idle (get_or js p no_job) (ap keeps (sym (task_is p lt)) ∙ sym (placed_kept ts p) ∙ sym (ap (λ (x : Placed). x.kept) (told_is p lt)) ∙ e)) t
+      (drops_idle (get_or js p no_job) (ap keeps (sym (task_is p lt)) ∙ sym (placed_kept ts p) ∙ ap is_some (sym (told_is p lt) ∙ e))) t
 
   module _ (f : ℕ → Job → ℕ) where
     -- a kept job's share, by its place in the input
@@ -176,12 +181,12 @@ module _ (capacity : ℤ) (js : List Job) (few : length js ≤ 32) (ok : jobs_ch
     share p = f (position p order) (get_or js p no_job)
 
     share_told : (p : ℕ) → p < length js
-        → cond (told_at h p).kept (f (told_at h p).id (job_at h p)) 0 ≡ cond (keeps (task_at ts p)) (f (position p order) (get_or js p no_job)) 0
+        → of_told (told_at h p) (λ (i : ℕ). f i (job_at h p)) ≡ cond (keeps (task_at ts p)) (f (position p order) (get_or js p no_job)) 0
     unfolding placed_at
-    share_told p lt = ap (λ (x : Placed). cond x.kept (f x.id (job_at h p)) 0) (told_is p lt) ∙ go (keeps (task_at ts p))
+    share_told p lt = ap (λ (x : Option ℕ). of_told x (λ (i : ℕ). f i (job_at h p))) (told_is p lt) ∙ go (keeps (task_at ts p))
       where
         go : (b : Bool)
-            → cond (cond b (record { kept = true; id = position p order }) dropped).kept (f (cond b (record { kept = true; id = position p order }) dropped).id (job_at h p)) 0
+            → of_told (cond b (Some (position p order)) dropped) (λ (i : ℕ). f i (job_at h p))
             ≡ cond b (f (position p order) (get_or js p no_job)) 0
         go true = refl
         go false = refl
@@ -218,22 +223,22 @@ module _ (id : ℕ) (earliest latest : ℤ) where
   abbrev moved : ℕ → Job → Job
   moved i j = cond (eqb i id) (rebounded j earliest latest) j
 
-  rebounding_length : (ps : List Placed) (js : List Job) → length (rebounding id earliest latest ps js) ≡ length js
+  rebounding_length : (ps : List (Option ℕ)) (js : List Job) → length (rebounding id earliest latest ps js) ≡ length js
   unfolding rebounding
   rebounding_length [] js = refl
   rebounding_length (p ∷ ps) [] = refl
   rebounding_length (p ∷ ps) (j ∷ js) = ap suc (rebounding_length ps js)
 
-  rebounding_at : (ps : List Placed) (js : List Job) (p : ℕ) → p < length js
+  rebounding_at : (ps : List (Option ℕ)) (js : List Job) (p : ℕ) → p < length js
       → get_or (rebounding id earliest latest ps js) p no_job
-      ≡ cond ((get_or ps p dropped).kept && eqb (get_or ps p dropped).id id) (rebounded (get_or js p no_job) earliest latest) (get_or js p no_job)
+      ≡ cond (is_told (get_or ps p dropped) id) (rebounded (get_or js p no_job) earliest latest) (get_or js p no_job)
   unfolding rebounding
   rebounding_at [] js p lt = refl
   rebounding_at (q ∷ ps) [] p lt = absurd (not-suc-le-zero lt)
   rebounding_at (q ∷ ps) (j ∷ js) zero lt = refl
   rebounding_at (q ∷ ps) (j ∷ js) (suc p) lt = rebounding_at ps js p (le_of_suc-le-suc lt)
 
-  module _ (h : Heard) (kept : List Job) (b : ById h kept) (inside : id < length kept) (ok : bounds_checked earliest latest ≡ Accepted) where
+  module _ (h : Heard) (kept : List Job) (b : ById h kept) (inside : id < length kept) (ok : bounds_checked earliest latest ≡ Ok tt) where
     abbrev after : Heard
     after = record { capacity = h.capacity; jobs = rebounding id earliest latest h.told h.jobs; told = h.told }
 
@@ -249,12 +254,12 @@ module _ (id : ℕ) (earliest latest : ℤ) where
     told_after : {p i : ℕ} → Told h p i → Told after p i
     told_after told = record { inside = rw rebounding_length told.inside; id = told.id }
 
-    job_after : (p : ℕ) → p < length h.jobs → job_at after p ≡ cond ((told_at h p).kept && eqb (told_at h p).id id) (rebounded (job_at h p) earliest latest) (job_at h p)
+    job_after : (p : ℕ) → p < length h.jobs → job_at after p ≡ cond (is_told (told_at h p) id) (rebounded (job_at h p) earliest latest) (job_at h p)
     job_after p lt = rebounding_at h.told h.jobs p lt
 
     told_job : (p i : ℕ) → Told h p i → job_at after p ≡ moved i (job_at h p)
     told_job p i told =
-        job_after p told.inside ∙ ap (λ (x : Placed). cond (x.kept && eqb x.id id) (rebounded (job_at h p) earliest latest) (job_at h p)) told.id
+        job_after p told.inside ∙ ap (λ (x : Option ℕ). cond (is_told x id) (rebounded (job_at h p) earliest latest) (job_at h p)) told.id
 
     kept_job : (i : ℕ) → i < length kept → get_or kept_after_lem i no_job ≡ moved i (get_or kept i no_job)
     kept_job i lt =
@@ -270,30 +275,30 @@ module _ (id : ℕ) (earliest latest : ℤ) where
 
     -- its usage and its duration stay
     still_idle : (p : ℕ) → p < length h.jobs → Idle (job_at h p) → Idle (job_at after p)
-    still_idle p lt = go ((told_at h p).kept && eqb (told_at h p).id id) (job_after p lt)
+    still_idle p lt = go (is_told (told_at h p) id) (job_after p lt)
       where
         go : (x : Bool) → job_at after p ≡ cond x (rebounded (job_at h p) earliest latest) (job_at h p) → Idle (job_at h p) → Idle (job_at after p)
         go true e idle = rw e idle
         go false e idle = rw e idle
 
-    dropped_after : (p : ℕ) → p < length h.jobs → (told_at h p).kept ≡ false → job_at after p ≡ job_at h p
-    dropped_after p lt e = job_after p lt ∙ ap (λ (k : Bool). cond (k && eqb (told_at h p).id id) (rebounded (job_at h p) earliest latest) (job_at h p)) e
+    dropped_after : (p : ℕ) → p < length h.jobs → told_at h p ≡ None → job_at after p ≡ job_at h p
+    dropped_after p lt e = job_after p lt ∙ ap (λ (x : Option ℕ). cond (is_told x id) (rebounded (job_at h p) earliest latest) (job_at h p)) e
 
     sums_after : (f : ℕ → Job → ℕ) → told_sum after f ≡ kept_sum kept_after_lem f
     sums_after f =
         ap (sum_below _) (rebounding_length h.told h.jobs)
-        ∙ sum_same _ _ (length h.jobs) (λ p lt. go p (told_at h p).kept (job_after p lt))
+        ∙ sum_same _ _ (length h.jobs) (λ p lt. go p (told_at h p) (job_after p lt))
         ∙ b.sums (λ (i : ℕ) (j : Job). f i (moved i j))
         ∙ sum_same _ _ (length kept) (λ i lt. ap (f i) (sym (kept_job i lt)))
         ∙ ap (sum_below (λ (i : ℕ). f i (get_or kept_after_lem i no_job))) (sym (length-set kept id _))
       where
-        go : (p : ℕ) (k : Bool) → job_at after p ≡ cond (k && eqb (told_at h p).id id) (rebounded (job_at h p) earliest latest) (job_at h p)
-            → cond k (f (told_at h p).id (job_at after p)) 0 ≡ cond k (f (told_at h p).id (moved (told_at h p).id (job_at h p))) 0
-        go p true e = ap (f (told_at h p).id) e
-        go p false e = refl
+        go : (p : ℕ) (o : Option ℕ) → job_at after p ≡ cond (is_told o id) (rebounded (job_at h p) earliest latest) (job_at h p)
+            → of_told o (λ (i : ℕ). f i (job_at after p)) ≡ of_told o (λ (i : ℕ). f i (moved i (job_at h p)))
+        go p (Some i) e = ap (f i) e
+        go p None e = refl
 
     numbers_after : AllNumbers after.jobs
-    numbers_after = numbers_each after.jobs (λ p lt. go p (before lt) ((told_at h p).kept && eqb (told_at h p).id id) (job_after p (before lt)))
+    numbers_after = numbers_each after.jobs (λ p lt. go p (before lt) (is_told (told_at h p) id) (job_after p (before lt)))
       where
         go : (p : ℕ) → p < length h.jobs → (x : Bool) → job_at after p ≡ cond x (rebounded (job_at h p) earliest latest) (job_at h p) → Numbers (job_at after p)
         go p lt true e = let n = numbers_at h.jobs b.numbers p lt in rw e (record { starts = bounds_accepted ok; duration = n.duration; usage = n.usage })

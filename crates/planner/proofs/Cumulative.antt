@@ -1,6 +1,7 @@
 -- A job must be running exactly where it runs from each of its starts, so what must be drawn is drawn whatever is chosen: "overloaded" says that
 -- no choice of starts meets the cumulative constraint, and where each job has one start only "fits" says that this choice does.
 -- Assumes nothing.
+use Rattle.std.specs.Prelude.{Ok, is_ok}
 use mathlib.Core.Path.{◌≡◌, refl, sym, ap, ◌∙◌}
 use mathlib.Core.Bool.{Bool, true, false, cond, ◌&&◌, true≢false}
 use mathlib.Core.Logic.{◌↔◌, ⊎_elim}
@@ -14,13 +15,12 @@ use Rattle.time_table.specs.Meaning.{has}
 use Rattle.time_table.proofs.Sums.{has_in, lt_or_le}
 use Rattle.time_table.proofs.Bits.{both}
 use Rattle.planner.specs.declared.Job.{Job}
-use Rattle.planner.specs.declared.Checked.TheVariants.{Accepted}
 use Rattle.planner.specs.declared.Answer.TheVariants.{Fits, Overloaded}
 use Rattle.planner.specs.Instants.{instant, tick, amount}
 use Rattle.planner.specs.Checks.{job_checked}
 use Rattle.planner.specs.Running.{between, must_run, runs_from, StartOf}
 use Rattle.planner.specs.Answers.{fresh_plan}
-use Rattle.planner.specs.History.{Call, Heard, accepted, outcome, plan_after, heard_with}
+use Rattle.planner.specs.History.{Call, Heard, outcome, plan_after, heard_with}
 use Rattle.planner.specs.Demand.{drawn_at, Exceeds}
 use Rattle.planner.specs.Cumulative.{Starts, one, drawn_from, Cumulative, AllFixed}
 use Rattle.planner.proofs.Ticks.{le_instant, instant_le}
@@ -94,7 +94,7 @@ module _ (j : Job) (n : Numbers j) where
           (λ i. last.0 i && first.1 i)
 
 -- a job that a load accepts must be running exactly where it runs whatever start is chosen
-pub must_run_lem : (j : Job) → job_checked j ≡ Accepted → (t : ℤ) → (must_run j t ≡ true) ↔ ((s : ℤ) → StartOf j s → runs_from j s t ≡ true)
+pub must_run_lem : (j : Job) → job_checked j ≡ Ok tt → (t : ℤ) → (must_run j t ≡ true) ↔ ((s : ℤ) → StartOf j s → runs_from j s t ≡ true)
 must_run_lem j ok = must_exactly j (job_accepted ok)
 
 -- a draw that is made where another is
@@ -136,17 +136,17 @@ module _ (h : Heard) (n : AllNumbers h.jobs) (ss : List ℤ) (chosen : Starts h.
       (lt_or_le (amount h.capacity) (drawn_at h.jobs t))
 
 -- after every history, by the last accepted bounds and for every choice of starts
-module _ (calls : List Call) (c : Call) (taken : accepted (outcome (plan_after fresh_plan calls) c).answer ≡ true) (ss : List ℤ)
+module _ (calls : List Call) (c : Call) (taken : is_ok (outcome (plan_after fresh_plan calls) c).answer ≡ true) (ss : List ℤ)
     (chosen : Starts (heard_with calls c).jobs ss) where
   good : Good (heard_with calls c) (outcome (plan_after fresh_plan calls) c)
   good = accepted_good calls c taken
 
   -- an accepted call that answers "overloaded" leaves none that meets the constraint
-  pub overloaded_none : (outcome (plan_after fresh_plan calls) c).answer ≡ Overloaded → Cumulative (heard_with calls c) ss → ⊥
+  pub overloaded_none : (outcome (plan_after fresh_plan calls) c).answer ≡ Ok Overloaded → Cumulative (heard_with calls c) ss → ⊥
   overloaded_none over = exceeding (heard_with calls c) good.agrees.by_id.numbers ss chosen (good.answered.overloaded.0 over)
 
   -- one that answers "fits", where each job has one start only, leaves that one, and it meets it
-  pub fits_fixed : (outcome (plan_after fresh_plan calls) c).answer ≡ Fits → AllFixed (heard_with calls c).jobs → Cumulative (heard_with calls c) ss
+  pub fits_fixed : (outcome (plan_after fresh_plan calls) c).answer ≡ Ok Fits → AllFixed (heard_with calls c).jobs → Cumulative (heard_with calls c) ss
   fits_fixed fits fixed =
       fitting (heard_with calls c) good.agrees.by_id.numbers ss chosen fixed
-      (λ x. let e : Fits ≡ Overloaded = sym fits ∙ good.answered.overloaded.1 x in let clash : ◌≡◌ {A = ℕ} 0 1 = cc in absurd (omega arith))
+      (λ x. let e : Ok Fits ≡ Ok Overloaded = sym fits ∙ good.answered.overloaded.1 x in absurd (cc))

@@ -1,8 +1,9 @@
 -- First fit answers over signed instants as it does over ticks: each start and each instant of a run is the instant of a tick, and the order is
 -- the ticks'.
 -- Assumes nothing.
+use Rattle.std.specs.Prelude.{Option, Some, None, Ok}
 use mathlib.Core.Path.{◌≡◌, refl, sym, ap, ◌∙◌, subst}
-use mathlib.Core.Bool.{Bool, true, false, cond, true≢false, false≢true}
+use mathlib.Core.Bool.{true}
 use mathlib.Core.List.{List, [], ◌∷◌, map}
 use mathlib.Core.Logic.{◌↔◌}
 use Prim.Native.Nat.{ℕ, ◌+◌, ◌≤◌, suc}
@@ -18,12 +19,10 @@ use Rattle.time_table.specs.Meaning.{has, summed, height_at}
 use Rattle.time_table.proofs.Bits.{same_test}
 use Rattle.sweep.specs.declared.Task.{Task}
 use Rattle.sweep.specs.Tasks.{lasts}
-use Rattle.fit.specs.declared.Fit.{Fit}
 use Rattle.fit.specs.Fits.{IsFit, IsFirst, IsFirstFit}
-use Rattle.fit.specs.FirstFit.{first_fit, none_found}
+use Rattle.fit.specs.FirstFit.{first_fit}
 use Rattle.fit.proofs.FirstFit.{first_fit_is, first_fit_unique}
 use Rattle.planner.specs.declared.Plan.{Plan}
-use Rattle.planner.specs.declared.FirstFit.TheVariants.{Start, Nowhere}
 use Rattle.planner.specs.Instants.{instant, amount}
 use Rattle.planner.specs.Records.{record_of}
 use Rattle.planner.specs.Sound.{Sound}
@@ -90,25 +89,19 @@ module _ (plan : Plan) (k : Task) where
       record { fit = tick_fits z w.fit; least = λ s v. instant_le a.at s (rw a.is at (w.least (instant s) (to_instants s v))) }
 
 -- the two kinds of answer
-started : (f : Fit) (z : ℤ) → start_of f ≡ Start z → (f.found ≡ true) × (instant f.start ≡ z)
-started f z h = go f.found refl h
-  where
-    go : (b : Bool) → f.found ≡ b → cond b (Start (instant f.start)) Nowhere ≡ Start z → (f.found ≡ true) × (instant f.start ≡ z)
-    go true e h = (e, cc)
-    go false e h = let clash : ◌≡◌ {A = ℕ} 0 1 = cc in absurd (omega arith)
+started : (f : Option ℕ) (z : ℤ) → start_of f ≡ Some z → (s : ℕ) × ((f ≡ Some s) × (instant s ≡ z))
+started (Some s) z h = (s, (refl, cc))
+started None z h = absurd (cc)
 
-nowhere : (f : Fit) → start_of f ≡ Nowhere → f.found ≡ false
-nowhere f h = go f.found refl h
-  where
-    go : (b : Bool) → f.found ≡ b → cond b (Start (instant f.start)) Nowhere ≡ Nowhere → f.found ≡ false
-    go true e h = let clash : ◌≡◌ {A = ℕ} 0 1 = cc in absurd (omega arith)
-    go false e h = e
+nowhere : (f : Option ℕ) → start_of f ≡ None → f ≡ None
+nowhere (Some s) h = absurd (cc)
+nowhere None h = refl
 
 module _ (plan : Plan) (id : ℤ) (sound : Sound plan) (live : plan.live ≡ true) (there : HasTask plan id) where
-  abbrev found : Fit
+  abbrev found : Option ℕ
   found = first_fit (asked_by (task_with plan id)) plan.capacity (rows_of plan.table)
 
-  asked : fit_of plan id ≡ start_of found
+  asked : fit_of plan id ≡ Ok (start_of found)
   asked = fit_asked plan id ((has_task plan id).1 there) live
 
   is_first : IsFirstFit (rows_of plan.table) plan.capacity (asked_by (task_with plan id)) found
@@ -116,21 +109,28 @@ module _ (plan : Plan) (id : ℤ) (sound : Sound plan) (live : plan.live ≡ tru
       let known = known_true plan.tasks.count id ((has_task plan id).1 there) in
       first_fit_is (asked_by (task_with plan id)) plan.capacity ticks 0 (rows_of plan.table) (sound.live live).right.ordered (sound.tasks.limited (amount id) known.1).long
 
-  found_is : (f : Fit) → IsFirstFit (rows_of plan.table) plan.capacity (asked_by (task_with plan id)) f → fit_of plan id ≡ start_of f
-  found_is f w = asked ∙ ap start_of (first_fit_unique (rows_of plan.table) plan.capacity (asked_by (task_with plan id)) found f is_first w)
+  found_is : (f : Option ℕ) → IsFirstFit (rows_of plan.table) plan.capacity (asked_by (task_with plan id)) f → fit_of plan id ≡ Ok (start_of f)
+  found_is f w = asked ∙ ap (λ (g : Option ℕ). Ok (start_of g)) (first_fit_unique (rows_of plan.table) plan.capacity (asked_by (task_with plan id)) found f is_first w)
 
-  pub start_exactly : (z : ℤ) → (fit_of plan id ≡ Start z) ↔ FirstAt plan (task_with plan id) z
+  only_first : (s : ℕ) → IsFirst (rows_of plan.table) plan.capacity (asked_by (task_with plan id)) s → IsFirstFit (rows_of plan.table) plan.capacity (asked_by (task_with plan id)) (Some s)
+  only_first s w = record { some = λ t e. let same : s ≡ t = cc in rw same at w; none = λ e. absurd (cc) }
+
+  -- what is answered is what was found, in instants
+  answered : (f : Option ℤ) → fit_of plan id ≡ Ok f → start_of found ≡ f
+  answered f h = let e : Ok (start_of found) ≡ Ok f = sym asked ∙ h in cc
+
+  pub start_exactly : (z : ℤ) → (fit_of plan id ≡ Ok (Some z)) ↔ FirstAt plan (task_with plan id) z
   start_exactly z = (
     λ h.
-        let e = started found z (sym asked ∙ h) in
-        subst (FirstAt plan (task_with plan id)) e.1 (first_instant plan (task_with plan id) found.start (is_first.some e.0)),
+        let e = started found z (answered (Some z) h) in
+        subst (FirstAt plan (task_with plan id)) e.1.1 (first_instant plan (task_with plan id) e.0 (is_first.some e.0 e.1.0)),
     λ w.
         let a = fit_tick plan (task_with plan id) z w.fit in
-        found_is (record { found = true; start = a.at }) (record { some = λ e. first_tick plan (task_with plan id) z w; none = λ e. absurd (true≢false e) }) ∙ ap Start (sym a.is),
+        found_is (Some a.at) (only_first a.at (first_tick plan (task_with plan id) z w)) ∙ ap (λ (y : ℤ). Ok (Some y)) (sym a.is),
   )
 
-  pub nowhere_exactly : (fit_of plan id ≡ Nowhere) ↔ ((z : ℤ) → ¬ FitsAt plan (task_with plan id) z)
+  pub nowhere_exactly : (fit_of plan id ≡ Ok None) ↔ ((z : ℤ) → ¬ FitsAt plan (task_with plan id) z)
   nowhere_exactly = (
-    λ h z w. (is_first.none (nowhere found (sym asked ∙ h))).0 (fit_tick plan (task_with plan id) z w).at (tick_fits plan (task_with plan id) z w),
-    λ none. found_is none_found (record { some = λ e. absurd (false≢true e); none = λ e. (λ s w. none (instant s) (to_instants plan (task_with plan id) s w), refl) }),
+    λ h z w. is_first.none (nowhere found (answered None h)) (fit_tick plan (task_with plan id) z w).at (tick_fits plan (task_with plan id) z w),
+    λ none. found_is None (record { some = λ s e. absurd (cc); none = λ e s w. none (instant s) (to_instants plan (task_with plan id) s w) }),
   )

@@ -1,16 +1,15 @@
 -- Each check gives an answer exactly when document 01's table gives it: some row of the table holds, and its tests lead to its answer and number.
 -- Assumes nothing.
+use Rattle.std.specs.Prelude.{Result, Ok, Err, ⊤}
 use mathlib.Core.Path.{◌≡◌, refl, sym, ap, ◌∙◌, subst}
 use mathlib.Core.Bool.{not, and-false}
 use mathlib.Core.Logic.{◌↔◌, inl, inr, ⊎_elim}
 use Prim.Native.Nat.{ℕ}
-use native.Mathlib.Omega.{arith}
 use borrow.Author.Tests.{not-true}
 use lib.IntN.{ℤ}
 use lib.Signed.{le_z}
+use Rattle.planner.specs.declared.Refusal.{Refusal}
 use Rattle.planner.specs.declared.Job.{Job}
-use Rattle.planner.specs.declared.Checked.{Checked}
-use Rattle.planner.specs.declared.Checked.TheVariants.{Accepted, Refused}
 use Rattle.planner.specs.Refusals.{Verdict, admitted, refused, verdict}
 use Rattle.planner.specs.Ranges.{in_range, bounds, durations, usages, capacities}
 use Rattle.planner.specs.Checks.{◌then◌, capacity_checked, bounds_checked, job_checked}
@@ -19,13 +18,13 @@ use Rattle.planner.proofs.Tests.{by_test, lt_z_not}
 use Rattle.planner.proofs.RangeTest.{range_test, range_fact, range_none, range_fails}
 
 -- what a verdict says of a check, and of a check and then another
-pub taken : (c : Checked) → verdict c ≡ admitted → c ≡ Accepted
-taken Accepted h = refl
-taken (Refused why) h = let clash : ◌≡◌ {A = ℕ} 0 1 = cc in absurd (omega arith)
+pub taken : (c : Result ⊤ Refusal) → verdict c ≡ admitted → c ≡ Ok tt
+taken (Ok _) h = refl
+taken (Err why) h = absurd (cc)
 
-pub refused_first : {n : ℕ} (a b : Checked) → verdict a ≡ refused n → verdict (a then b) ≡ refused n
-refused_first Accepted b h = let clash : ◌≡◌ {A = ℕ} 0 1 = cc in absurd (omega arith)
-refused_first (Refused why) b h = h
+pub refused_first : {n : ℕ} (a b : Result ⊤ Refusal) → verdict a ≡ refused n → verdict (a then b) ≡ refused n
+refused_first (Ok _) b h = absurd (cc)
+refused_first (Err why) b h = h
 
 -- a table of which some row holds, and each leads to what is heard
 pub by_table : {Given : Verdict → Type 0} {heard : Verdict} → ((v : Verdict) → Given v → heard ≡ v) → (v : Verdict) × Given v → (v : Verdict) → (heard ≡ v) ↔ Given v
@@ -43,7 +42,7 @@ capacity_given (capacity_in within) = rw (range_test within)
 pub capacity_exactly : (c : ℤ) (v : Verdict) → (verdict (capacity_checked c) ≡ v) ↔ CapacityGiven c v
 capacity_exactly c = by_table (λ v. capacity_given) (some_capacity c)
 
-pub capacity_taken : {c : ℤ} → CapacityGiven c admitted → capacity_checked c ≡ Accepted
+pub capacity_taken : {c : ℤ} → CapacityGiven c admitted → capacity_checked c ≡ Ok tt
 capacity_taken g = taken _ (capacity_given g)
 
 -- refusals 3 and 4
@@ -70,7 +69,7 @@ bounds_given (ordered p q o) = rw (range_test p, range_test q, o)
 pub bounds_exactly : (e l : ℤ) (v : Verdict) → (verdict (bounds_checked e l) ≡ v) ↔ BoundsGiven e l v
 bounds_exactly e l = by_table (λ v. bounds_given) (some_bounds e l)
 
-pub bounds_taken : {e l : ℤ} → BoundsGiven e l admitted → bounds_checked e l ≡ Accepted
+pub bounds_taken : {e l : ℤ} → BoundsGiven e l admitted → bounds_checked e l ≡ Ok tt
 bounds_taken g = taken _ (bounds_given g)
 
 -- refusals 3 to 6
@@ -98,5 +97,5 @@ job_given (job_in g p q) = rw (bounds_taken g, range_test p, range_test q)
 pub job_exactly : (j : Job) (v : Verdict) → (verdict (job_checked j) ≡ v) ↔ JobGiven j v
 job_exactly j = by_table (λ v. job_given) (some_job j)
 
-pub job_taken : {j : Job} → JobGiven j admitted → job_checked j ≡ Accepted
+pub job_taken : {j : Job} → JobGiven j admitted → job_checked j ≡ Ok tt
 job_taken g = taken _ (job_given g)

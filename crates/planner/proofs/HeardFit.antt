@@ -1,5 +1,6 @@
 -- First fit over every history: the table's height at each instant is what the heard jobs must draw there, and a plan's task is its job in ticks.
 -- Assumes nothing.
+use Rattle.std.specs.Prelude.{Some, None, Ok, IsOk}
 use mathlib.Core.Path.{◌≡◌, refl, sym, ap, ◌∙◌}
 use mathlib.Core.Bool.{true, ◌&&◌}
 use mathlib.Core.Logic.{◌↔◌, ⊎_elim}
@@ -17,8 +18,6 @@ use Rattle.time_table.proofs.Bits.{both}
 use Rattle.sweep.proofs.Placed.{get_map}
 use Rattle.planner.specs.declared.Job.{Job}
 use Rattle.planner.specs.declared.Plan.{Plan}
-use Rattle.planner.specs.declared.Checked.TheVariants.{Accepted}
-use Rattle.planner.specs.declared.FirstFit.TheVariants.{Start, Nowhere}
 use Rattle.planner.specs.Ranges.{bounds}
 use Rattle.planner.specs.Instants.{amount}
 use Rattle.planner.specs.Running.{run_length, between}
@@ -107,23 +106,23 @@ module _ (h : Heard) (plan : Plan) (a : Agrees h plan) (live : plan.live ≡ tru
     from_first : (z : ℤ) → HeardFirst h job z → FirstAt plan (task_of job) z
     from_first z w = record { fit = from_heard job job_numbers z w.fit; least = λ y v. w.least y (to_heard job job_numbers y v) }
 
-    agreeing_start : (z : ℤ) → (fit_of plan (pos i) ≡ Start z) ↔ HeardFirst h job z
+    agreeing_start : (z : ℤ) → (fit_of plan (pos i) ≡ Ok (Some z)) ↔ HeardFirst h job z
     agreeing_start z =
         let exactly = rw task_heard at (start_exactly plan (pos i) a.sound live task_there z) in
         (λ e. to_first z (exactly.0 e), λ w. exactly.1 (from_first z w))
 
-    agreeing_nowhere : (fit_of plan (pos i) ≡ Nowhere) ↔ ((z : ℤ) → ¬ HeardFits h job z)
+    agreeing_nowhere : (fit_of plan (pos i) ≡ Ok None) ↔ ((z : ℤ) → ¬ HeardFits h job z)
     agreeing_nowhere =
         let exactly = rw task_heard at (nowhere_exactly plan (pos i) a.sound live task_there) in
         (λ e z w. exactly.0 e z (from_heard job job_numbers z w), λ none. exactly.1 (λ z w. none z (to_heard job job_numbers z w)))
 
 -- after every history, where the rows are not refused, of the job at the place p of the input, which was told the id i
-module _ (calls : List Call) (taken : (rows_shown (plan_after fresh_plan calls)).answer ≡ Accepted) (p i : ℕ) (told : Told (heard_after fresh_plan nothing calls) p i) where
+module _ (calls : List Call) (taken : IsOk (rows_shown (plan_after fresh_plan calls))) (p i : ℕ) (told : Told (heard_after fresh_plan nothing calls) p i) where
   live : (plan_after fresh_plan calls).live ≡ true
   live = rows_live (plan_after fresh_plan calls) taken
 
-  pub heard_start : (z : ℤ) → (fit_of (plan_after fresh_plan calls) (pos i) ≡ Start z) ↔ HeardFirst (heard_after fresh_plan nothing calls) (job_at (heard_after fresh_plan nothing calls) p) z
+  pub heard_start : (z : ℤ) → (fit_of (plan_after fresh_plan calls) (pos i) ≡ Ok (Some z)) ↔ HeardFirst (heard_after fresh_plan nothing calls) (job_at (heard_after fresh_plan nothing calls) p) z
   heard_start z = agreeing_start (heard_after fresh_plan nothing calls) (plan_after fresh_plan calls) (history_agrees calls) live p i told z
 
-  pub heard_nowhere : (fit_of (plan_after fresh_plan calls) (pos i) ≡ Nowhere) ↔ ((z : ℤ) → ¬ HeardFits (heard_after fresh_plan nothing calls) (job_at (heard_after fresh_plan nothing calls) p) z)
+  pub heard_nowhere : (fit_of (plan_after fresh_plan calls) (pos i) ≡ Ok None) ↔ ((z : ℤ) → ¬ HeardFits (heard_after fresh_plan nothing calls) (job_at (heard_after fresh_plan nothing calls) p) z)
   heard_nowhere = agreeing_nowhere (heard_after fresh_plan nothing calls) (plan_after fresh_plan calls) (history_agrees calls) live p i told

@@ -13,11 +13,11 @@ use lib.ListN.{length, length-map}
 use lib.Signed.{le_z, lt_z}
 use Rattle.time_table.proofs.Sums.{lt_or_le}
 use Rattle.planner.specs.declared.Plan.{Plan}
-use Rattle.planner.specs.Refusals.{refused}
+use Rattle.planner.specs.Refusals.{refused, verdict}
 use Rattle.planner.specs.Loads.{task_of}
 use Rattle.planner.specs.Updates.{updated}
 use Rattle.planner.specs.Questions.{fit_of}
-use Rattle.planner.specs.Refused.{judged, fit_judged, NoTask}
+use Rattle.planner.specs.Refused.{NoTask}
 use Rattle.planner.specs.Answers.{fresh_plan}
 use Rattle.planner.specs.History.{Call, Heard, nothing, plan_after, heard_after}
 use Rattle.planner.specs.Demand.{SomeJob, NoJob}
@@ -53,8 +53,8 @@ module _ (calls : List Call) (id : ℤ) where
     no_task_lem (heard_after fresh_plan nothing calls) (plan_after fresh_plan calls) (history_agrees calls) id,
   )
 
-  pub heard_update_7 : (earliest latest : ℤ) → (judged (updated (plan_after fresh_plan calls) id earliest latest).answer ≡ refused 7) ↔ NoJob (heard_after fresh_plan nothing calls) id
+  pub heard_update_7 : (earliest latest : ℤ) → (verdict (updated (plan_after fresh_plan calls) id earliest latest).answer ≡ refused 7) ↔ NoJob (heard_after fresh_plan nothing calls) id
   heard_update_7 earliest latest = Iff.trans (update_refused_7 (plan_after fresh_plan calls) id earliest latest) heard_none
 
-  pub heard_fit_7 : (fit_judged (fit_of (plan_after fresh_plan calls) id) ≡ refused 7) ↔ NoJob (heard_after fresh_plan nothing calls) id
+  pub heard_fit_7 : (verdict (fit_of (plan_after fresh_plan calls) id) ≡ refused 7) ↔ NoJob (heard_after fresh_plan nothing calls) id
   heard_fit_7 = Iff.trans (fit_refused_7 (plan_after fresh_plan calls) id) heard_none

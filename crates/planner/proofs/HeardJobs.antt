@@ -1,5 +1,6 @@
 -- What is heard of the jobs agrees with the plan's tasks: a load's kept jobs in ticks are the created tasks, and an update changes the same place.
 -- Assumes nothing.
+use Rattle.std.specs.Prelude.{Ok}
 use mathlib.Core.Path.{◌≡◌, refl, ap, ◌∙◌}
 use mathlib.Core.List.{List, [], ◌∷◌, map}
 use Prim.Native.Nat.{ℕ, zero, suc, ◌<◌}
@@ -12,7 +13,6 @@ use Rattle.sweep.specs.Created.{in_order, created}
 use Rattle.sweep.proofs.JobOrder.{in_order_low}
 use Rattle.sweep.proofs.Placed.{get_map}
 use Rattle.planner.specs.declared.Job.{Job}
-use Rattle.planner.specs.declared.Checked.TheVariants.{Accepted}
 use Rattle.planner.specs.Instants.{tick}
 use Rattle.planner.specs.Checks.{jobs_checked, bounds_checked}
 use Rattle.planner.specs.Given.{no_job}
@@ -32,7 +32,7 @@ module _ (js : List Job) where
   picked_tasks (i ∷ is) low =
       λ a. get_map task_of no_job no_task js i (low 0 (omega arith)) a ∷ picked_tasks is (λ k lt. low (suc k) (omega arith)) a
 
-  picked_numbers : jobs_checked js ≡ Accepted → (order : List ℕ) → ((k : ℕ) → k < length order → get_or order k 0 < length js)
+  picked_numbers : jobs_checked js ≡ Ok tt → (order : List ℕ) → ((k : ℕ) → k < length order → get_or order k 0 < length js)
       → AllNumbers (map (λ (i : ℕ). get_or js i no_job) order)
   unfolding AllNumbers
   picked_numbers ok [] low = tt
@@ -46,7 +46,7 @@ module _ (js : List Job) where
   unfolding created
   kept_tasks = picked_tasks (in_order (map task_of js)) order_low
 
-  pub kept_numbers : jobs_checked js ≡ Accepted → AllNumbers (kept_jobs js)
+  pub kept_numbers : jobs_checked js ≡ Ok tt → AllNumbers (kept_jobs js)
   kept_numbers ok = picked_numbers ok (in_order (map task_of js)) order_low
 
 -- one job in the place of another
@@ -61,7 +61,7 @@ numbers_set [] n i j m = tt
 numbers_set (k ∷ js) n zero j m = (m, n.1)
 numbers_set (k ∷ js) n (suc i) j m = (n.0, numbers_set js n.1 i j m)
 
-module _ (js : List Job) (nums : AllNumbers js) (i : ℕ) (lt : i < length js) (earliest latest : ℤ) (ok : bounds_checked earliest latest ≡ Accepted) where
+module _ (js : List Job) (nums : AllNumbers js) (i : ℕ) (lt : i < length js) (earliest latest : ℤ) (ok : bounds_checked earliest latest ≡ Ok tt) where
   abbrev other : Job
   other = rebounded (get_or js i no_job) earliest latest
 

@@ -1,10 +1,11 @@
 -- Demand 3 over every history: what is heard of the accepted calls agrees with the plan, so each answer is right for it.
 -- Assumes nothing.
+use Rattle.std.specs.Prelude.{Option, Result, Ok, Err, is_ok, IsOk, ⊤}
 use mathlib.Core.Path.{◌≡◌, refl, sym, ap, ◌∙◌, subst}
 use mathlib.Core.Bool.{true, false, true≢false}
 use mathlib.Core.Logic.{◌⊎◌, inl, inr, ⊎_elim}
 use mathlib.Core.List.{List, [], ◌∷◌, map}
-use Prim.Native.Nat.{◌≤◌, ◌<◌}
+use Prim.Native.Nat.{ℕ, ◌≤◌, ◌<◌}
 use native.Mathlib.Omega.{arith}
 use lib.IntN.{ℤ}
 use lib.ListN.{length, get_or, set, length-map}
@@ -16,13 +17,11 @@ use Rattle.time_table.specs.declared.Part.{Part}
 use Rattle.time_table.proofs.TableOfRows.{rows_of_lem}
 use Rattle.time_table.proofs.TableUpdate.{UpdateFits, update_fits}
 use Rattle.sweep.specs.declared.Task.{Task}
-use Rattle.sweep.specs.declared.util.Placed.{Placed}
 use Rattle.sweep.specs.Tasks.{tasks_of, tasks_with, task_at, usage_of, part_of, runs}
 use Rattle.sweep.specs.Created.{created, placed_below}
 use Rattle.planner.specs.declared.Job.{Job}
 use Rattle.planner.specs.declared.Jobs.{Jobs}
 use Rattle.planner.specs.declared.Refusal.{Refusal}
-use Rattle.planner.specs.declared.Checked.{Checked}
 use Rattle.planner.specs.declared.Plan.{Plan}
 use Rattle.planner.specs.declared.Updated.{Updated}
 use Rattle.planner.specs.declared.Loaded.{Loaded}
@@ -34,7 +33,7 @@ use Rattle.planner.specs.Updates.{known, bounded, accepted_update}
 use Rattle.planner.specs.Loads.{task_of, jobs_of, load_checked, accepted_load}
 use Rattle.planner.specs.Sound.{SoundTasks}
 use Rattle.planner.specs.Answers.{fresh_plan, refused_update}
-use Rattle.planner.specs.History.{Call, load, update, without_places, outcome, tells, Heard, nothing, rebounded, accepted, hear, last_heard, plan_after, heard_after, heard_with}
+use Rattle.planner.specs.History.{Call, load, update, without_places, outcome, tells, Heard, nothing, rebounded, hear, last_heard, plan_after, heard_after, heard_with}
 use Rattle.planner.specs.Questions.{rows_shown, shown_rows}
 use Rattle.planner.specs.Demand.{Identified, Answered, DemandedAfter}
 use Rattle.planner.proofs.Tests.{by_test}
@@ -51,11 +50,11 @@ use Rattle.planner.proofs.HeardPlan.{Agrees, fresh_agrees, shown_demanded, Good,
 
 -- a call is refused and leaves the plan as it was, or is accepted and good
 abbrev Led : Heard → Plan → Call → Type 0
-Led h plan c = ((accepted (outcome plan c).answer ≡ false) × ((outcome plan c).plan ≡ plan)) ⊎ Good (hear h c (tells plan c)) (outcome plan c)
+Led h plan c = ((is_ok (outcome plan c).answer ≡ false) × ((outcome plan c).plan ≡ plan)) ⊎ Good (hear h c (tells plan c)) (outcome plan c)
 
 -- where an outcome is known
 refused_led : (h : Heard) (plan : Plan) (c : Call) (why : Refusal) → outcome plan c ≡ refused_update plan why → Led h plan c
-refused_led h plan c why e = inl (ap (λ (o : Updated). accepted o.answer) e, ap (λ (o : Updated). o.plan) e)
+refused_led h plan c why e = inl (ap (λ (o : Updated). is_ok o.answer) e, ap (λ (o : Updated). o.plan) e)
 
 good_led : (h : Heard) (plan : Plan) (c : Call) (o : Updated) → outcome plan c ≡ o → Good (hear h c (tells plan c)) o → Led h plan c
 good_led h plan c o e g = inr (rw e g)
@@ -64,16 +63,16 @@ load_led : (h : Heard) (plan : Plan) (jobs : Jobs) (capacity : ℤ) → Led h pl
 unfolding accepted_load
 load_led h plan jobs capacity = go (load_checked jobs capacity) refl
   where
-    go : (r : Checked) → load_checked jobs capacity ≡ r → Led h plan (load jobs capacity)
-    go (Checked.Refused why) e = refused_led h plan (load jobs capacity) why (ap without_places (load_by plan jobs capacity (Checked.Refused why) e))
-    go Checked.Accepted e =
+    go : (r : Result ⊤ Refusal) → load_checked jobs capacity ≡ r → Led h plan (load jobs capacity)
+    go (Err why) e = refused_led h plan (load jobs capacity) why (ap without_places (load_by plan jobs capacity (Err why) e))
+    go (Ok _) e =
         let ok = load_accepted jobs capacity e in
         let js = jobs_of jobs in
         let k = capacity_accepted ok.1 in
-        let is = load_by plan jobs capacity Checked.Accepted e in
+        let is = load_by plan jobs capacity (Ok tt) e in
         let few : length js ≤ 32 = omega (arith, jobs_few jobs ok.0, length-map js task_of) in
         good_led h plan (load jobs capacity) _ (ap without_places is)
-        (subst (λ (told : List Placed). Good (record { capacity = capacity; jobs = js; told = told }) (without_places (accepted_load jobs capacity))) (sym (ap (λ (l : Loaded). l.placed) is))
+        (subst (λ (told : List (Option ℕ)). Good (record { capacity = capacity; jobs = js; told = told }) (without_places (accepted_load jobs capacity))) (sym (ap (λ (l : Loaded). l.placed) is))
         (swept_good (record { capacity = capacity; jobs = js; told = placed_below (map task_of js) 32 }) (kept_jobs js) (loaded_by_id capacity js few ok.0.checked)
         (created (map task_of js)) (loaded_sound jobs ok.0) (kept_tasks js) (kept_numbers js ok.0.checked) (amount capacity) k.top refl))
 
@@ -82,7 +81,7 @@ module _ (h : Heard) (plan : Plan) (a : Agrees h plan) (id earliest latest : ℤ
   call = update id earliest latest
 
   -- the task is known and the bounds are accepted
-  module _ (k : known plan.tasks.count id ≡ true) (ok : bounds_checked earliest latest ≡ Checked.Accepted) where
+  module _ (k : known plan.tasks.count id ≡ true) (ok : bounds_checked earliest latest ≡ Ok tt) where
     lt : amount id < plan.tasks.count
     lt = (known_true plan.tasks.count id k).1
 
@@ -111,7 +110,7 @@ module _ (h : Heard) (plan : Plan) (a : Agrees h plan) (id earliest latest : ℤ
     numbers = moved_numbers a.kept a.numbers (amount id) inside earliest latest ok
 
     is_accepted : outcome plan call ≡ accepted_update plan (amount id) (tick earliest) (tick latest)
-    is_accepted = update_known plan id earliest latest Checked.Accepted k ok
+    is_accepted = update_known plan id earliest latest (Ok tt) k ok
 
     stale_led : plan.live ≡ false → Led h plan call
     stale_led stale =
@@ -158,9 +157,9 @@ module _ (h : Heard) (plan : Plan) (a : Agrees h plan) (id earliest latest : ℤ
       (λ no_task_lem. refused_led h plan call UnknownTask (update_unknown plan id earliest latest no_task_lem))
       (by_test (known plan.tasks.count id))
     where
-      go : known plan.tasks.count id ≡ true → (r : Checked) → bounds_checked earliest latest ≡ r → Led h plan call
-      go k (Checked.Refused why) e = refused_led h plan call why (update_known plan id earliest latest (Checked.Refused why) k e)
-      go k Checked.Accepted e = ⊎_elim (λ live. live_led k e live) (λ stale. stale_led k e stale) (by_test plan.live)
+      go : known plan.tasks.count id ≡ true → (r : Result ⊤ Refusal) → bounds_checked earliest latest ≡ r → Led h plan call
+      go k (Err why) e = refused_led h plan call why (update_known plan id earliest latest (Err why) k e)
+      go k (Ok _) e = ⊎_elim (λ live. live_led k e live) (λ stale. stale_led k e stale) (by_test plan.live)
 
 led : (h : Heard) (plan : Plan) → Agrees h plan → (c : Call) → Led h plan c
 led h plan a (load jobs capacity) = load_led h plan jobs capacity
@@ -183,7 +182,7 @@ pub history_agrees : (calls : List Call) → Agrees (heard_after fresh_plan noth
 history_agrees calls = calls_agree nothing fresh_plan fresh_agrees calls
 
 -- after every history an accepted call is good: the plan agrees with what is heard then, and the answer is right for it
-pub accepted_good : (calls : List Call) (c : Call) → accepted (outcome (plan_after fresh_plan calls) c).answer ≡ true
+pub accepted_good : (calls : List Call) (c : Call) → is_ok (outcome (plan_after fresh_plan calls) c).answer ≡ true
     → Good (heard_with calls c) (outcome (plan_after fresh_plan calls) c)
 accepted_good calls c taken =
     ⊎_elim
@@ -192,12 +191,12 @@ accepted_good calls c taken =
     (led (heard_after fresh_plan nothing calls) (plan_after fresh_plan calls) (history_agrees calls) c)
 
 -- demand 3: after every history, an accepted call is answered as demanded, by the last accepted bounds
-pub demand_three : (calls : List Call) (c : Call) → accepted (outcome (plan_after fresh_plan calls) c).answer ≡ true
+pub demand_three : (calls : List Call) (c : Call) → is_ok (outcome (plan_after fresh_plan calls) c).answer ≡ true
     → Answered (heard_with calls c) (outcome (plan_after fresh_plan calls) c)
 demand_three calls c taken = (accepted_good calls c taken).answered
 
 -- and the rows that a question gets stay as demanded, whatever is refused in between
-pub rows_demanded : (calls : List Call) → (rows_shown (plan_after fresh_plan calls)).answer ≡ Checked.Accepted → DemandedAfter calls (shown_rows (rows_shown (plan_after fresh_plan calls)))
+pub rows_demanded : (calls : List Call) → IsOk (rows_shown (plan_after fresh_plan calls)) → DemandedAfter calls (shown_rows (rows_shown (plan_after fresh_plan calls)))
 rows_demanded calls =
     let a = history_agrees calls in
     shown_demanded (heard_after fresh_plan nothing calls) (plan_after fresh_plan calls)

@@ -16,6 +16,7 @@ pub mod UpdatedPlan
 pub mod FitQuestions
 pub mod ShownRows
 pub mod LoadedTasks
+pub mod SoundOutcomes
 pub mod SignedDraws
 pub mod IndexSums
 pub mod IdleJobs

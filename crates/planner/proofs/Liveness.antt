@@ -1,13 +1,14 @@
 -- A load, and an update of a stale plan, sweep: the table is live afterwards exactly if the answer is "fits". An update of a live plan edits, or is
 -- refused, and leaves the table live.
 -- Assumes nothing.
+use Rattle.std.specs.Prelude.{Option, Some, None, is_none, Result, Ok, Err, is_ok, ⊤}
 use mathlib.Core.Path.{◌≡◌, refl, sym, ap, subst}
-use mathlib.Core.Bool.{Bool, true, false, cond, not, true≢false}
+use mathlib.Core.Bool.{Bool, true, false, true≢false, false≢true}
 use mathlib.Core.Logic.{◌↔◌, ⊎_elim}
 use mathlib.Core.List.{List}
 use Prim.Native.Nat.{ℕ}
-use native.Mathlib.Omega.{arith}
 use lib.IntN.{ℤ}
+use Rattle.time_table.specs.declared.Row.{Row}
 use Rattle.time_table.specs.Rows.{rows_of}
 use Rattle.time_table.specs.Update.{update_over}
 use Rattle.time_table.specs.Overload.{conflict_in}
@@ -17,46 +18,45 @@ use Rattle.sweep.specs.Sweep.{sweep}
 use Rattle.planner.specs.declared.Jobs.{Jobs}
 use Rattle.planner.specs.declared.Plan.{Plan}
 use Rattle.planner.specs.declared.Refusal.{Refusal}
-use Rattle.planner.specs.declared.Checked.{Checked}
-use Rattle.planner.specs.declared.Answer.TheVariants.{Fits, Overloaded}
+use Rattle.planner.specs.declared.Answer.TheVariants.{Fits}
 use Rattle.planner.specs.declared.Updated.{Updated}
 use Rattle.planner.specs.Instants.{tick, amount}
 use Rattle.planner.specs.Checks.{bounds_checked}
-use Rattle.planner.specs.Answers.{swept_plan, refused_update}
+use Rattle.planner.specs.Answers.{answer_of, swept_plan, refused_update}
 use Rattle.planner.specs.Loads.{load_checked, accepted_load}
 use Rattle.planner.specs.Updates.{known, bounded, accepted_update}
-use Rattle.planner.specs.History.{load, update, without_places, outcome, accepted}
+use Rattle.planner.specs.History.{load, update, without_places, outcome}
 use Rattle.planner.proofs.Tests.{by_test}
 use Rattle.planner.proofs.LoadedTasks.{load_by}
 use Rattle.planner.proofs.UpdatedPlan.{accepted_by, live_over_full, live_with_room, update_unknown, update_known}
 
 -- live afterwards exactly if the answer is "fits"
 abbrev LiveIfFits : Updated → Type 0
-LiveIfFits o = (o.plan.live ≡ true) ↔ (o.answer ≡ Fits)
+LiveIfFits o = (o.plan.live ≡ true) ↔ (o.answer ≡ Ok Fits)
 
 -- of a call that is accepted
 abbrev Accepts : Updated → Type 0
-Accepts o = accepted o.answer ≡ true → LiveIfFits o
+Accepts o = is_ok o.answer ≡ true → LiveIfFits o
 
 swept_accepts : (capacity : ℕ) (ts : List Task) → Accepts (swept_plan capacity ts)
-swept_accepts capacity ts taken = go (conflict_in capacity (sweep ts)).found
+swept_accepts capacity ts taken = go (conflict_in capacity (sweep ts))
   where
-    go : (b : Bool) → (not b ≡ true) ↔ (cond b Overloaded Fits ≡ Fits)
-    go true = (λ e. absurd (true≢false (sym e)), λ e. let clash : ◌≡◌ {A = ℕ} 0 1 = cc in absurd (omega arith))
-    go false = (λ e. refl, λ e. refl)
+    go : (c : Option Row) → (is_none c ≡ true) ↔ (answer_of c ≡ Ok Fits)
+    go (Some r) = (λ e. absurd (false≢true e), λ e. absurd (cc))
+    go None = (λ e. refl, λ e. refl)
 
 refused_accepts : (plan : Plan) (why : Refusal) → Accepts (refused_update plan why)
 refused_accepts plan why taken = absurd (true≢false (sym taken))
 
 -- after an accepted load
-pub load_live : (plan : Plan) (jobs : Jobs) (capacity : ℤ) → accepted (outcome plan (load jobs capacity)).answer ≡ true
-    → ((outcome plan (load jobs capacity)).plan.live ≡ true) ↔ ((outcome plan (load jobs capacity)).answer ≡ Fits)
+pub load_live : (plan : Plan) (jobs : Jobs) (capacity : ℤ) → is_ok (outcome plan (load jobs capacity)).answer ≡ true
+    → ((outcome plan (load jobs capacity)).plan.live ≡ true) ↔ ((outcome plan (load jobs capacity)).answer ≡ Ok Fits)
 unfolding accepted_load
 load_live plan jobs capacity = go (load_checked jobs capacity) refl
   where
-    go : (r : Checked) → load_checked jobs capacity ≡ r → Accepts (outcome plan (load jobs capacity))
-    go Checked.Accepted e = subst Accepts (sym (ap without_places (load_by plan jobs capacity Checked.Accepted e))) (swept_accepts (amount capacity) _)
-    go (Checked.Refused why) e = subst Accepts (sym (ap without_places (load_by plan jobs capacity (Checked.Refused why) e))) (refused_accepts plan why)
+    go : (r : Result ⊤ Refusal) → load_checked jobs capacity ≡ r → Accepts (outcome plan (load jobs capacity))
+    go (Ok _) e = subst Accepts (sym (ap without_places (load_by plan jobs capacity (Ok tt) e))) (swept_accepts (amount capacity) _)
+    go (Err why) e = subst Accepts (sym (ap without_places (load_by plan jobs capacity (Err why) e))) (refused_accepts plan why)
 
 module _ (plan : Plan) (id earliest latest : ℤ) where
   -- the ways of an update
@@ -68,13 +68,13 @@ module _ (plan : Plan) (id earliest latest : ℤ) where
       (λ no_task_lem. rw (update_unknown plan id earliest latest no_task_lem) (refused _))
       (by_test (known plan.tasks.count id))
     where
-      go : known plan.tasks.count id ≡ true → (r : Checked) → bounds_checked earliest latest ≡ r → P (outcome plan (update id earliest latest))
-      go k Checked.Accepted e = rw (update_known plan id earliest latest Checked.Accepted k e) taken
-      go k (Checked.Refused why) e = rw (update_known plan id earliest latest (Checked.Refused why) k e) (refused why)
+      go : known plan.tasks.count id ≡ true → (r : Result ⊤ Refusal) → bounds_checked earliest latest ≡ r → P (outcome plan (update id earliest latest))
+      go k (Ok _) e = rw (update_known plan id earliest latest (Ok tt) k e) taken
+      go k (Err why) e = rw (update_known plan id earliest latest (Err why) k e) (refused why)
 
   -- after an accepted update of a stale plan
-  pub stale_live : plan.live ≡ false → accepted (outcome plan (update id earliest latest)).answer ≡ true
-      → ((outcome plan (update id earliest latest)).plan.live ≡ true) ↔ ((outcome plan (update id earliest latest)).answer ≡ Fits)
+  pub stale_live : plan.live ≡ false → is_ok (outcome plan (update id earliest latest)).answer ≡ true
+      → ((outcome plan (update id earliest latest)).plan.live ≡ true) ↔ ((outcome plan (update id earliest latest)).answer ≡ Ok Fits)
   stale_live stale =
       by_update Accepts (refused_accepts plan)
       (rw (accepted_by plan (amount id) (tick earliest) (tick latest) stale) (swept_accepts plan.capacity _))

@@ -1,5 +1,6 @@
 -- The tasks of accepted jobs are within the limits: each is a kept job, in ticks.
 -- Assumes nothing.
+use Rattle.std.specs.Prelude.{Result, Ok, ⊤}
 use mathlib.Core.Path.{◌≡◌, refl, sym, ap, ◌∙◌}
 use mathlib.Core.Bool.{true}
 use mathlib.Core.List.{List, map}
@@ -16,12 +17,11 @@ use Rattle.sweep.specs.Tasks.{no_task, tasks_with, HeldTasks, task_at}
 use Rattle.sweep.specs.Created.{keeps, in_order, created}
 use Rattle.sweep.proofs.JobOrder.{in_order_low, order_few}
 use Rattle.sweep.proofs.Placed.{get_map, created_at, created_kept, created_length}
+use Rattle.planner.specs.declared.Refusal.{Refusal}
 use Rattle.planner.specs.declared.Job.{Job}
 use Rattle.planner.specs.declared.Jobs.{Jobs}
 use Rattle.planner.specs.declared.Plan.{Plan}
 use Rattle.planner.specs.declared.Refusal.TheVariants.{TooManyJobs}
-use Rattle.planner.specs.declared.Checked.{Checked}
-use Rattle.planner.specs.declared.Checked.TheVariants.{Accepted}
 use Rattle.planner.specs.Checks.{unless, ◌then◌, job_checked, jobs_checked, capacity_checked}
 use Rattle.planner.specs.Given.{no_job}
 use Rattle.planner.specs.Loads.{jobs_of, task_of, load_checked, loaded_by, loaded, Loadable}
@@ -35,7 +35,7 @@ pub tasks_held : (l : List Task) → length l ≤ 32 → HeldTasks (tasks_with l
 tasks_held l le = held_as (record { is = refl; counts = refl; fits = le }) (sym (tasks_of_lem l))
 
 -- a kept job that is accepted is within the limits
-kept_limited : (j : Job) → job_checked j ≡ Accepted → keeps (task_of j) ≡ true → Limited (task_of j)
+kept_limited : (j : Job) → job_checked j ≡ Ok tt → keeps (task_of j) ≡ true → Limited (task_of j)
 unfolding keeps
 kept_limited j ok kept =
     let n = job_accepted ok in
@@ -70,11 +70,11 @@ module _ (jobs : Jobs) (can : Loadable jobs) where
       record { held = tasks_held (created js) few; limited = λ i lt. rw (tasks_of_lem (created js)) (task_limited i lt) }
 
 -- the cases of a load
-pub load_by : (plan : Plan) (jobs : Jobs) (capacity : ℤ) (r : Checked) → load_checked jobs capacity ≡ r → loaded plan jobs capacity ≡ loaded_by r plan jobs capacity
+pub load_by : (plan : Plan) (jobs : Jobs) (capacity : ℤ) (r : Result ⊤ Refusal) → load_checked jobs capacity ≡ r → loaded plan jobs capacity ≡ loaded_by r plan jobs capacity
 unfolding loaded
-load_by plan jobs capacity r e = ap (λ (x : Checked). loaded_by x plan jobs capacity) e
+load_by plan jobs capacity r e = ap (λ (x : Result ⊤ Refusal). loaded_by x plan jobs capacity) e
 
-pub load_accepted : (jobs : Jobs) (capacity : ℤ) → load_checked jobs capacity ≡ Accepted → Loadable jobs × (capacity_checked capacity ≡ Accepted)
+pub load_accepted : (jobs : Jobs) (capacity : ℤ) → load_checked jobs capacity ≡ Ok tt → Loadable jobs × (capacity_checked capacity ≡ Ok tt)
 unfolding load_checked
 load_accepted jobs capacity e =
     let w = then_accepted (unless TooManyJobs (leb jobs.count 32)) (capacity_checked capacity then jobs_checked (jobs_of jobs)) e in

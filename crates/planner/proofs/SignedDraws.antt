@@ -1,5 +1,6 @@
 -- What runs and what is drawn at a signed instant is what runs and is drawn at its tick; below the first tick nothing runs.
 -- Assumes nothing.
+use Rattle.std.specs.Prelude.{Ok}
 use mathlib.Core.Path.{◌≡◌, refl, sym}
 use mathlib.Core.Bool.{Bool, true, false, cond}
 use mathlib.Core.List.{List, [], ◌∷◌, map}
@@ -17,7 +18,6 @@ use Rattle.planner.specs.declared.Job.{Job}
 use Rattle.planner.specs.Ranges.{bounds}
 use Rattle.planner.specs.Instants.{instant}
 use Rattle.planner.specs.Loads.{task_of}
-use Rattle.planner.specs.declared.Checked.TheVariants.{Accepted}
 use Rattle.planner.specs.Checks.{job_checked}
 use Rattle.planner.specs.Running.{must_run}
 use Rattle.planner.specs.Given.{no_job}
@@ -63,7 +63,7 @@ running_tick : (j : Job) → Numbers j → (s : ℕ) → must_run j (instant s) 
 running_tick j n s = run_at n.starts n.duration s
 
 -- a job that a load accepts must be running exactly in its part in ticks
-pub part_signed : (j : Job) → job_checked j ≡ Accepted → (s : ℕ) → must_run j (instant s) ≡ in_part (task_of j) s
+pub part_signed : (j : Job) → job_checked j ≡ Ok tt → (s : ℕ) → must_run j (instant s) ≡ in_part (task_of j) s
 part_signed j ok s = running_tick j (job_accepted ok) s
 
 pub runs_signed : (js : List Job) → AllNumbers js → (i s : ℕ) → running_at js i (instant s) ≡ runs (map task_of js) i s

@@ -1,9 +1,10 @@
 -- Rows that are right for a plan's tasks are, as records, what demand 3 says in signed instants, and the first row that is too high starts at the
 -- first instant that exceeds the capacity: instants are in the order of their ticks.
 -- Assumes nothing.
+use Rattle.std.specs.Prelude.{Some, None}
 use mathlib.Core.Path.{◌≡◌, refl, sym, ap, ◌∙◌}
 use mathlib.Core.Bool.{true, false, true≢false}
-use mathlib.Core.Logic.{⊎_elim, ◌↔◌}
+use mathlib.Core.Logic.{⊎_elim}
 use mathlib.Core.List.{List, map}
 use Prim.Native.Nat.{ℕ, ◌<◌}
 use native.Mathlib.Omega.{arith}
@@ -33,7 +34,6 @@ use Rattle.planner.specs.Sound.{SoundTasks}
 use Rattle.planner.specs.Running.{must_run}
 use Rattle.planner.specs.History.{Heard, job_at, Told}
 use Rattle.planner.specs.Demand.{drawn_at, ExceedsAt, Exceeds, FirstExceeds, record_at, In, RowOf, Demanded}
-use Rattle.planner.proofs.Tests.{by_test}
 use Rattle.planner.proofs.Ticks.{instant_order, instant_strict}
 use Rattle.planner.proofs.RunInTicks.{AtTick, below, placed}
 use Rattle.planner.proofs.Limits.{sound_few}
@@ -63,27 +63,22 @@ module _ (h : Heard) (jobs : List Job) (by_id : ById h jobs) (ts : Tasks) (sound
   exceeds_tick t over = ⊎_elim (λ w. w) (λ low. absurd (omega (arith, drawn_kept h jobs by_id t, draw_below t low jobs nums, over))) (placed t)
 
   module _ (capacity : ℕ) (cap : capacity ≡ amount h.capacity) where
-    pub found_first : (conflict_in capacity rows).found ≡ true → FirstExceeds h (instant (conflict_in capacity rows).row.start)
-    found_first f =
-        let w = conflict_first capacity ticks 0 rows right.ordered f in
+    pub found_first : (r : Row) → conflict_in capacity rows ≡ Some r → FirstExceeds h (instant r.start)
+    found_first r e =
+        let w = conflict_first capacity ticks 0 rows right.ordered r e in
         record {
-          there = omega (arith, w.high, w.height, height_signed (conflict_in capacity rows).row.start, cap);
+          there = omega (arith, w.high, w.height, height_signed r.start, cap);
           before = λ s less over.
               let a = exceeds_tick s over in
-              let lt : a.at < (conflict_in capacity rows).row.start = ltb-true _ _ (sym (instant_strict a.at (conflict_in capacity rows).row.start) ∙ rw a.is at less) in
+              let lt : a.at < r.start = ltb-true _ _ (sym (instant_strict a.at r.start) ∙ rw a.is at less) in
               let low = w.before a.at lt in
               omega (arith, low, height_signed a.at, cap, rw a.is at over);
         }
 
-    pub found_exactly : ((conflict_in capacity rows).found ≡ true) ↔ Exceeds h
-    found_exactly = (
-      (λ f. record { instant = instant (conflict_in capacity rows).row.start; there = (found_first f).there }),
-      λ e.
-          let a = exceeds_tick e.instant e.there in
-          ⊎_elim (λ yes-found. yes-found)
-          (λ none. absurd (omega (arith, conflict_fits capacity ticks 0 rows right.ordered none a.at, height_signed a.at, cap, rw a.is at e.there)))
-          (by_test (conflict_in capacity rows).found),
-    )
+    pub none_exceeds : conflict_in capacity rows ≡ None → ¬ Exceeds h
+    none_exceeds none e =
+        let a = exceeds_tick e.instant e.there in
+        omega (arith, conflict_fits capacity ticks 0 rows right.ordered none a.at, height_signed a.at, cap, rw a.is at e.there)
 
   -- the rows as records
   record_at_lem : (k : ℕ) → k < length rows → record_at (map record_of rows) k ≡ record_of (row_at rows k)

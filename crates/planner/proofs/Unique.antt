@@ -1,43 +1,52 @@
 -- No two outcomes meet a function's promise: the promise says what the outcome is; and a promise is what the `ensures` clauses in the code say, as they are
 -- read off them.
 -- Assumes nothing.
+use Rattle.std.specs.Prelude.{Option, Result, IfOk}
 use mathlib.Core.Path.{◌≡◌, sym, ◌∙◌}
 use Prim.Native.Nat.{ℕ}
 use lib.IntN.{ℤ}
+use contract.Lifetimes.{Lfts}
+use borrow.Fn.World.{ArgsD}
+use borrow.Fn.Kinds.{ended_of}
+use denote.Triple.Clauses.{AtExit}
 use Rattle.planner.specs.declared.Job.{Job}
 use Rattle.planner.specs.declared.Jobs.{Jobs}
 use Rattle.planner.specs.declared.Plan.{Plan}
 use Rattle.planner.specs.declared.Refusal.{Refusal}
-use Rattle.planner.specs.declared.FirstFit.{FirstFit}
 use Rattle.planner.specs.declared.RowRecord.{RowRecord}
 use Rattle.planner.specs.declared.Rows.{Rows}
 use Rattle.planner.specs.declared.Updated.{Updated}
 use Rattle.planner.specs.declared.Loaded.{Loaded}
+use Rattle.planner.specs.Shown.{Shown}
 use Rattle.planner.specs.Unique.{FreshPromise, LoadPromise, UpdatePromise, FitPromise, RowsPromise, EmptyPromise, KeepPromise, NumberPromise, NoRecordPromise}
 use Rattle.planner.proofs.Plan.fresh.Reads as fresh
 use Rattle.planner.proofs.Plan.load.Reads as load
 use Rattle.planner.proofs.Plan.update.Reads as update
+use Rattle.planner.specs.contracts.Plan.first_fit as fit-fn
 use Rattle.planner.proofs.Plan.first_fit.Reads as fit
+use Rattle.planner.proofs.Plan.first_fit.Kinds as fit-kinds
+use Rattle.planner.specs.contracts.Plan.rows as rows-fn
 use Rattle.planner.proofs.Plan.rows.Reads as rows
+use Rattle.planner.proofs.Plan.rows.Kinds as rows-kinds
 use Rattle.planner.proofs.Jobs.empty.Reads as empty
 use Rattle.planner.proofs.Jobs.keep.Reads as keep
 use Rattle.planner.proofs.Refusal.number.Reads as number
 use Rattle.planner.proofs.records.no_record.Reads as no_record
 
 pub fresh_unique : {r s : Plan} → FreshPromise r → FreshPromise s → r ≡ s
-fresh_unique p q = p.0 ∙ sym q.0
+fresh_unique p q = p ∙ sym q
 
 module _ (plan : Plan) where
   pub load_unique : (jobs : Jobs) (capacity : ℤ) {r s : Loaded} → LoadPromise plan jobs capacity r → LoadPromise plan jobs capacity s → r ≡ s
-  load_unique jobs capacity p q = p.0 ∙ sym q.0
+  load_unique jobs capacity p q = p ∙ sym q
 
   pub update_unique : (id earliest latest : ℤ) {r s : Updated} → UpdatePromise plan id earliest latest r → UpdatePromise plan id earliest latest s → r ≡ s
-  update_unique id earliest latest p q = p.0 ∙ sym q.0
+  update_unique id earliest latest p q = p ∙ sym q
 
-  pub fit_unique : (id : ℤ) {r s : FirstFit} → FitPromise plan id r → FitPromise plan id s → r ≡ s
+  pub fit_unique : (id : ℤ) {r s : Result (Option ℤ) Refusal} → FitPromise plan id r → FitPromise plan id s → r ≡ s
   fit_unique id p q = p ∙ sym q
 
-  pub rows_unique : {r s : Rows} → RowsPromise plan r → RowsPromise plan s → r ≡ s
+  pub rows_unique : {r s : Result Rows Refusal} → RowsPromise plan r → RowsPromise plan s → r ≡ s
   rows_unique p q = p ∙ sym q
 
 pub empty_unique : {r s : Jobs} → EmptyPromise r → EmptyPromise s → r ≡ s
@@ -64,11 +73,13 @@ module _ (plan : Plan) where
       → update.Post tt (plan, (id, (earliest, (latest, tt)))) r (plan, (id, (earliest, (latest, tt)))) → UpdatePromise plan id earliest latest r
   update_promised id earliest latest r meets = meets
 
-  pub fit_promised : (id : ℤ) (r : FirstFit) → fit.Post tt (plan, (id, tt)) r (plan, (id, tt)) → FitPromise plan id r
-  fit_promised id r meets = meets
+pub fit_promised : (κs : Lfts 1) (a : ArgsD fit-fn.signature κs) (r : Result (Option ℤ) Refusal) (s : AtExit (ended_of 1 fit-kinds.ps fit-kinds.r) κs)
+    → fit.Post κs a r s → FitPromise a.0.now a.1.0 r
+fit_promised κs a r s meets = meets
 
-  pub rows_promised : (r : Rows) → rows.Post tt (plan, tt) r (plan, tt) → RowsPromise plan r
-  rows_promised r meets = meets
+pub rows_promised : (κs : Lfts 1) (a : ArgsD rows-fn.signature κs) (r : Result Rows Refusal) (s : AtExit (ended_of 1 rows-kinds.ps rows-kinds.r) κs)
+    → rows.Post κs a r s → RowsPromise a.0.now r × IfOk r Shown
+rows_promised κs a r s meets = meets
 
 pub empty_promised : (r : Jobs) → empty.Post tt tt r tt → EmptyPromise r
 empty_promised r meets = meets

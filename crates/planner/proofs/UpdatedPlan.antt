@@ -1,9 +1,9 @@
 -- An update of a sound plan: the task with its new bounds is within the limits, and a live table that is right for the old part becomes one
 -- that is right for the new part.
 -- Assumes nothing.
+use Rattle.std.specs.Prelude.{Result, Ok, Err, ⊤}
 use mathlib.Core.Path.{◌≡◌, refl, sym, ap, ◌∙◌}
 use mathlib.Core.Bool.{Bool, true, false, cond}
-use mathlib.Core.Logic.{⊎_elim}
 use mathlib.Core.List.{List}
 use Prim.Native.Nat.{ℕ, ◌≤◌, ◌<◌}
 use native.Mathlib.Omega.{arith}
@@ -12,11 +12,12 @@ use lib.ListN.{get_or, set}
 use lib.Seq.{get_or-take}
 use Rattle.time_table.specs.declared.Row.{Row}
 use Rattle.time_table.specs.declared.Table.{Table}
-use Rattle.time_table.specs.declared.Edited.{Edited}
-use Rattle.time_table.specs.Rows.{rows_of, table_of, Clean}
+use Rattle.time_table.specs.Rows.{rows_of, table_of}
 use Rattle.time_table.specs.Meaning.{Right}
 use Rattle.time_table.specs.Update.{update_over, updated_rows, Updatable}
+use Rattle.time_table.specs.Table.{verdict}
 use Rattle.time_table.specs.Update.{updated as edited}
+use Rattle.time_table.specs.declared.TooManyRows.{TooManyRows as Full}
 use Rattle.time_table.proofs.Held.{held_set}
 use Rattle.time_table.proofs.TableOfRows.{rows_of_lem, clean_of}
 use Rattle.time_table.proofs.PartsInTurn.{right_as}
@@ -25,9 +26,9 @@ use Rattle.time_table.proofs.TableUpdate.{UpdateFits, update_fits, updated_right
 use Rattle.sweep.specs.declared.Task.{Task}
 use Rattle.sweep.specs.declared.Tasks.{Tasks}
 use Rattle.sweep.specs.Tasks.{no_task, tasks_of, tasks_with, task_at, usage_of, part_of, in_part, runs}
+use Rattle.planner.specs.declared.Refusal.{Refusal}
 use Rattle.planner.specs.declared.Plan.{Plan}
 use Rattle.planner.specs.declared.Refusal.TheVariants.{UnknownTask, TooManyRows}
-use Rattle.planner.specs.declared.Checked.{Checked}
 use Rattle.planner.specs.Ranges.{last_start}
 use Rattle.planner.specs.Sound.{Limited, SoundTasks, Live, Sound}
 use Rattle.planner.specs.Checks.{unless, ◌then◌, bounds_checked}
@@ -35,7 +36,6 @@ use Rattle.planner.specs.Answers.{live_plan, refused_update}
 use Rattle.planner.specs.Updates.{known, update_checked, bounded, live_update, stale_update, accepted_update, updated_by, updated}
 use Rattle.planner.proofs.Limits.{ends, sound_within, replaced_sound, replaced_runs, replaced_usage}
 use Rattle.planner.proofs.Known.{tasks_of_lem}
-use Rattle.planner.proofs.Tests.{by_test}
 
 module _ (plan : Plan) (s : Sound plan) (i e l : ℕ) (lt : i < plan.tasks.count) (order : e ≤ l) (top : l ≤ last_start) where
   abbrev old : Task
@@ -93,7 +93,7 @@ module _ (plan : Plan) (i e l : ℕ) where
   unfolding accepted_update
   accepted_by h = ap (λ (b : Bool). cond b (live_update plan i changed) (stale_update plan i changed)) h
 
-  abbrev rows_after : List Row
+  abbrev pub rows_after : List Row
   rows_after = updated_rows (part_of i (task_at (tasks_of plan.tasks) i)) (part_of i changed) (rows_of plan.table)
 
   pub live_over_full : update_over (part_of i (task_at (tasks_of plan.tasks) i)) (part_of i changed) (rows_of plan.table) ≡ true → live_update plan i changed ≡ refused_update plan TooManyRows
@@ -122,33 +122,42 @@ module _ (plan : Plan) (s : Sound plan) (i e l : ℕ) (lt : i < plan.tasks.count
   stored_tasks = ap tasks_of stored_is ∙ tasks_of_lem _
 
   -- the answer of an edit of a live table
-  module _ (live : plan.live ≡ true) (r : Edited)
-      (is : r ≡ edited (part_of i (old plan s i e l lt order top)) (part_of i (new plan s i e l lt order top)) plan.table) where
-    flag : {b : Bool} → r.over ≡ b → update_over (part_of i (old plan s i e l lt order top)) (part_of i (new plan s i e l lt order top)) (rows_of plan.table) ≡ b
+  module _ (live : plan.live ≡ true) where
+    abbrev over : Bool
+    over = update_over (part_of i (old plan s i e l lt order top)) (part_of i (new plan s i e l lt order top)) (rows_of plan.table)
+
+    abbrev edit : Result Table Full
+    edit = edited (part_of i (old plan s i e l lt order top)) (part_of i (new plan s i e l lt order top)) plan.table
+
+    -- it is full
+    pub edit_full : (why : Full) → edit ≡ Err why → refused_update plan TooManyRows ≡ accepted_update plan i e l
     unfolding edited
-    flag f = sym (ap (λ (x : Edited). x.over) is) ∙ f
+    edit_full why is = go over refl is
+      where
+        go : (b : Bool) → over ≡ b → verdict b (rows_after plan i e l) ≡ Err why → refused_update plan TooManyRows ≡ accepted_update plan i e l
+        go true full told = sym (accepted_by plan i e l live ∙ live_over_full plan i e l full)
+        go false room told = absurd (cc)
 
-    came_to : {b : Bool} → r.over ≡ b
-        → r.table ≡ cond b plan.table (table_of (updated_rows (part_of i (old plan s i e l lt order top)) (part_of i (new plan s i e l lt order top)) (rows_of plan.table)))
-    unfolding edited
-    came_to f = rw (← (flag f)) (ap (λ (x : Edited). x.table) is)
+    -- or it has room for the rows
+    module _ (t : Table) (is : edit ≡ Ok t) where
+      room : (over ≡ false) × (t ≡ table_of (rows_after plan i e l))
+      unfolding edited
+      room = go over refl is
+        where
+          go : (b : Bool) → over ≡ b → verdict b (rows_after plan i e l) ≡ Ok t → (over ≡ false) × (t ≡ table_of (rows_after plan i e l))
+          go true full told = absurd (cc)
+          go false room told = (room, cc)
 
-    pub edit_over : r.over ≡ true → (r.table ≡ plan.table) × (refused_update plan TooManyRows ≡ accepted_update plan i e l)
-    edit_over f = (came_to f, sym (accepted_by plan i e l live ∙ live_over_full plan i e l (flag f)))
+      fits : UpdateFits (part_of i (old plan s i e l lt order top)) (part_of i (new plan s i e l lt order top)) plan.table t
+      fits = update_fits _ _ plan.table t (s.live live).clean room.0 room.1
 
-    fits : r.over ≡ false → UpdateFits (part_of i (old plan s i e l lt order top)) (part_of i (new plan s i e l lt order top)) plan.table r.table
-    fits f = update_fits _ _ plan.table r.table (s.live live).clean (flag f) (came_to f)
+      pub edit_live : Live stored t
+      edit_live = rw stored_is (new_live plan s i e l lt order top live t fits)
 
-    pub edit_live : r.over ≡ false → Live stored r.table
-    edit_live f = rw stored_is (new_live plan s i e l lt order top live r.table (fits f))
-
-    pub edit_clean : Clean r.table
-    edit_clean = ⊎_elim (λ f. rw (edit_over f).0 (s.live live).clean) (λ f. (edit_live f).clean) (by_test r.over)
-
-    pub edit_whole : r.over ≡ false → live_plan plan.capacity (tasks_of stored) (rows_of r.table) ≡ accepted_update plan i e l
-    edit_whole f =
-        let rows = ap rows_of (fits f).is ∙ rows_of_lem _ in
-        (λ j. live_plan plan.capacity (stored_tasks j) (rows j)) ∙ sym (accepted_by plan i e l live ∙ live_with_room plan i e l (flag f))
+      pub edit_whole : live_plan plan.capacity (tasks_of stored) (rows_of t) ≡ accepted_update plan i e l
+      edit_whole =
+          let rows = ap rows_of fits.is ∙ rows_of_lem _ in
+          (λ j. live_plan plan.capacity (stored_tasks j) (rows j)) ∙ sym (accepted_by plan i e l live ∙ live_with_room plan i e l room.0)
 
 -- the cases of an update
 module _ (plan : Plan) (id earliest latest : ℤ) where
@@ -156,6 +165,6 @@ module _ (plan : Plan) (id earliest latest : ℤ) where
   unfolding updated update_checked
   update_unknown e = ap (λ (b : Bool). updated_by (unless UnknownTask b then bounds_checked earliest latest) plan id earliest latest) e
 
-  pub update_known : (r : Checked) → known plan.tasks.count id ≡ true → bounds_checked earliest latest ≡ r → updated plan id earliest latest ≡ updated_by r plan id earliest latest
+  pub update_known : (r : Result ⊤ Refusal) → known plan.tasks.count id ≡ true → bounds_checked earliest latest ≡ r → updated plan id earliest latest ≡ updated_by r plan id earliest latest
   unfolding updated update_checked
   update_known r k e = λ i. updated_by (unless UnknownTask (k i) then e i) plan id earliest latest

@@ -1,7 +1,6 @@
 -- The answer of a load or an update: "overloaded" with the first row that is too high, if there is one, and else "fits".
-use Rattle.std.specs.Prelude.{cond, true, not, List, [], ℕ}
+use Rattle.std.specs.Prelude.{cond, true, Option, Some, None, is_some, is_none, Result, Ok, Err, List, [], ℕ}
 use Rattle.time_table.specs.declared.Row.{Row}
-use Rattle.time_table.specs.declared.Conflict.{Conflict}
 use Rattle.time_table.specs.Rows.{table_of}
 use Rattle.time_table.specs.Overload.{conflict_in}
 use Rattle.sweep.specs.declared.Task.{Task}
@@ -15,11 +14,13 @@ use Rattle.planner.specs.declared.Answer.TheVariants.{Fits, Overloaded}
 use Rattle.planner.specs.declared.Updated.{Updated}
 use Rattle.planner.specs.Records.{record_of, no_record}
 
-abbrev pub answer_of : Conflict → Answer
-answer_of c = cond c.found Overloaded Fits
+abbrev pub answer_of : Option Row → Result Answer Refusal
+answer_of (Some r) = Ok Overloaded
+answer_of None = Ok Fits
 
-abbrev pub shown_row : Conflict → RowRecord
-shown_row c = cond c.found (record_of c.row) no_record
+abbrev pub shown_row : Option Row → RowRecord
+shown_row (Some r) = record_of r
+shown_row None = no_record
 
 -- a fresh plan has no tasks, capacity 0 and a live, empty table
 abbrev pub fresh_plan : Plan
@@ -44,11 +45,11 @@ swept_plan capacity ts =
           record {
             capacity = capacity;
             tasks = tasks_with ts;
-            live = not (conflict_in capacity (sweep ts)).found;
-            table = table_of (cond (conflict_in capacity (sweep ts)).found [] (sweep ts));
+            live = is_none (conflict_in capacity (sweep ts));
+            table = table_of (cond (is_some (conflict_in capacity (sweep ts))) [] (sweep ts));
           };
     }
 
 -- a refusal leaves the plan as it was
 abbrev pub refused_update : Plan → Refusal → Updated
-refused_update plan why = record { answer = Answer.Refused why; row = no_record; plan = plan }
+refused_update plan why = record { answer = Err why; row = no_record; plan = plan }

@@ -1,22 +1,22 @@
 -- Document 01's corners by example that are marked *, a to m: what is asked, and what is to be said. That the definitions say just that is
 -- proved (proofs/Corners.antt).
-use Rattle.std.specs.Prelude.{List, [], ◌∷◌, map, ℕ, ℤ, pos, negsuc, take}
+use Rattle.std.specs.Prelude.{Option, Some, None, Result, Ok, Err, List, [], ◌∷◌, map, ℕ, ℤ, pos, negsuc, take}
 use Rattle.time_table.specs.declared.Part.{Part}
 use Rattle.time_table.specs.Adjustments.{stretch, removed_parts, added_parts}
 use Rattle.sweep.specs.Tasks.{part_of}
 use Rattle.planner.specs.declared.Job.{Job}
 use Rattle.planner.specs.declared.Plan.{Plan}
 use Rattle.planner.specs.declared.RowRecord.{RowRecord}
-use Rattle.planner.specs.declared.Checked.{Checked}
+use Rattle.planner.specs.declared.Rows.{Rows}
 use Rattle.planner.specs.declared.Answer.{Answer}
-use Rattle.planner.specs.declared.FirstFit.{FirstFit}
+use Rattle.planner.specs.declared.Refusal.{Refusal}
 use Rattle.planner.specs.Refusals.{number_of}
 use Rattle.planner.specs.Instants.{instant, tick}
 use Rattle.planner.specs.Kept.{jobs_with}
 use Rattle.planner.specs.Answers.{fresh_plan}
 use Rattle.planner.specs.Loads.{task_of, loaded}
 use Rattle.planner.specs.Updates.{updated}
-use Rattle.planner.specs.Questions.{fit_of, rows_shown}
+use Rattle.planner.specs.Questions.{fit_of, rows_shown, records_of}
 
 -- the instants from `from` up to but without `until`
 pub record Span : Type 0 where
@@ -66,29 +66,29 @@ abbrev pub spans : Part → List Span
 spans p = map to_span (stretch p p.from p.until)
 
 -- answers as they are said
-abbrev pub said_answer : Answer → RowRecord → Said
-said_answer Answer.Fits r = fits
-said_answer Answer.Overloaded r = overloaded r.start r.end r.height
-said_answer (Answer.Refused why) r = refused (number_of why)
+abbrev pub said_answer : Result Answer Refusal → RowRecord → Said
+said_answer (Ok Answer.Fits) r = fits
+said_answer (Ok Answer.Overloaded) r = overloaded r.start r.end r.height
+said_answer (Err why) r = refused (number_of why)
 
-abbrev pub said_fit : FirstFit → Said
-said_fit (FirstFit.Start s) = starts s
-said_fit FirstFit.Nowhere = nowhere
-said_fit (FirstFit.Refused why) = refused (number_of why)
+abbrev pub said_fit : Result (Option ℤ) Refusal → Said
+said_fit (Ok (Some s)) = starts s
+said_fit (Ok None) = nowhere
+said_fit (Err why) = refused (number_of why)
 
 abbrev pub line_of : RowRecord → Line
 line_of r = record { start = r.start; end = r.end; height = r.height; ids = take r.count r.ids }
 
-abbrev pub said_rows : Checked → List RowRecord → Said
-said_rows Checked.Accepted l = shows (map line_of l)
-said_rows (Checked.Refused why) l = refused (number_of why)
+abbrev pub said_rows : Result Rows Refusal → Said
+said_rows (Ok r) = shows (map line_of (records_of r))
+said_rows (Err why) = refused (number_of why)
 
 -- one call: what it says, and the plan after it
 unfoldable pub says : Plan → Call → Said
 says plan (load js capacity) = said_answer (loaded plan (jobs_with js) capacity).answer (loaded plan (jobs_with js) capacity).row
 says plan (update id earliest latest) = said_answer (updated plan id earliest latest).answer (updated plan id earliest latest).row
 says plan (fit id) = said_fit (fit_of plan id)
-says plan rows = said_rows (rows_shown plan).answer (take (rows_shown plan).count (rows_shown plan).rows)
+says plan rows = said_rows (rows_shown plan)
 
 unfoldable pub next : Plan → Call → Plan
 next plan (load js capacity) = (loaded plan (jobs_with js) capacity).plan

@@ -1,12 +1,11 @@
 -- Demand 3, in signed instants, of the jobs as they were handed in, by their last accepted bounds.
-use Rattle.std.specs.Prelude.{◌≡◌, true, false, cond, List, [], ◌∷◌, ◌↔◌, ℕ, ◌+◌, ◌<◌, ℤ, pos, length, get_or}
+use Rattle.std.specs.Prelude.{◌≡◌, true, false, cond, Ok, IsOk, List, [], ◌∷◌, ◌↔◌, ℕ, ◌+◌, ◌<◌, ℤ, pos, length, get_or}
 use Rattle.std.specs.Int.Signed.{le_z, lt_z}
 use Rattle.time_table.specs.Meaning.{bit, occurs}
 use Rattle.planner.specs.declared.Job.{Job}
 use Rattle.planner.specs.declared.RowRecord.{RowRecord}
 use Rattle.planner.specs.declared.Answer.TheVariants.{Overloaded}
 use Rattle.planner.specs.declared.Updated.{Updated}
-use Rattle.planner.specs.declared.Checked.TheVariants.{Accepted}
 use Rattle.planner.specs.Instants.{amount}
 use Rattle.planner.specs.Running.{must_run}
 use Rattle.planner.specs.Records.{ids_of, no_record}
@@ -81,9 +80,9 @@ pub record Demanded (h : Heard) (rows : List RowRecord) : Type 0 where
 -- instant, and the rows that a question then gets are as demanded
 pub record Answered (h : Heard) (o : Updated) : Type 0 where
   pub identified : Identified h
-  pub overloaded : (o.answer ≡ Overloaded) ↔ Exceeds h
-  pub first : o.answer ≡ Overloaded → FirstExceeds h o.row.start
-  pub rows : (rows_shown o.plan).answer ≡ Accepted → Demanded h (shown_rows (rows_shown o.plan))
+  pub overloaded : (o.answer ≡ Ok Overloaded) ↔ Exceeds h
+  pub first : o.answer ≡ Ok Overloaded → FirstExceeds h o.row.start
+  pub rows : IsOk (rows_shown o.plan) → Demanded h (shown_rows (rows_shown o.plan))
 
 -- rows as demanded of a live table after some calls of a fresh plan
 abbrev pub DemandedAfter : List Call → List RowRecord → Type 0

@@ -2,11 +2,10 @@
 -- just that is proved (proofs/Edges.antt).
 use Rattle.std.specs.Prelude.{List, [], ◌∷◌, ℤ, pos, neg_ℤ}
 use Rattle.planner.specs.declared.Job.{Job}
-use Rattle.planner.specs.Refusals.{Verdict, admitted, refused}
+use Rattle.planner.specs.Refusals.{Verdict, admitted, refused, verdict}
 use Rattle.planner.specs.Kept.{jobs_with}
 use Rattle.planner.specs.Answers.{fresh_plan}
 use Rattle.planner.specs.Loads.{loaded}
-use Rattle.planner.specs.Refused.{judged}
 
 -- an entry of the table: a job and a capacity, and what is to be heard
 pub record Edge : Type 0 where
@@ -16,7 +15,7 @@ pub record Edge : Type 0 where
 
 -- what is heard
 unfoldable pub hears : Edge → Verdict
-hears e = judged (loaded fresh_plan (jobs_with (e.job ∷ [])) e.capacity).answer
+hears e = verdict (loaded fresh_plan (jobs_with (e.job ∷ [])) e.capacity).answer
 
 -- start bounds, a duration, a usage, a capacity
 abbrev edge : ℤ → ℤ → ℤ → ℤ → ℤ → Verdict → Edge

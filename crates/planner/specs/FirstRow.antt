@@ -1,6 +1,6 @@
 -- The row shown with an answer: the first row that is higher than the capacity, if there is one. That each call shows it is proved
 -- (proofs/FirstRow.antt).
-use Rattle.std.specs.Prelude.{◌≡◌, true, false, List, ℕ}
+use Rattle.std.specs.Prelude.{◌≡◌, true, false, Ok, List, ℕ}
 use Rattle.time_table.specs.declared.Row.{Row}
 use Rattle.time_table.specs.Rows.{rows_of}
 use Rattle.time_table.specs.Overload.{FirstOver, NoneOver}
@@ -20,8 +20,8 @@ pub record FirstShown (capacity : ℕ) (rows : List Row) (shown : RowRecord) : T
 -- after a call
 pub record ShowsFirst (o : Updated) : Type 0 where
   -- overloaded, and the table is live afterwards: the first of its rows
-  pub live : o.answer ≡ Overloaded → o.plan.live ≡ true → FirstShown o.plan.capacity (rows_of o.plan.table) o.row
+  pub live : o.answer ≡ Ok Overloaded → o.plan.live ≡ true → FirstShown o.plan.capacity (rows_of o.plan.table) o.row
   -- overloaded, and the table is stale: the first of the sweep's rows
-  pub stale : o.answer ≡ Overloaded → o.plan.live ≡ false → FirstShown o.plan.capacity (sweep (tasks_of o.plan.tasks)) o.row
+  pub stale : o.answer ≡ Ok Overloaded → o.plan.live ≡ false → FirstShown o.plan.capacity (sweep (tasks_of o.plan.tasks)) o.row
   -- fits: there is none
-  pub none : o.answer ≡ Fits → NoneOver o.plan.capacity (rows_of o.plan.table)
+  pub none : o.answer ≡ Ok Fits → NoneOver o.plan.capacity (rows_of o.plan.table)

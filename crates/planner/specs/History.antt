@@ -1,12 +1,9 @@
 -- Calls from a fresh plan on, refused ones among them, and what the accepted ones among them have said last.
-use Rattle.std.specs.Prelude.{◌≡◌, Bool, true, false, cond, ◌&&◌, List, [], ◌∷◌, ℕ, ◌<◌, eqb, ℤ, pos, length, get_or}
-use Rattle.sweep.specs.declared.util.Placed.{Placed}
+use Rattle.std.specs.Prelude.{◌≡◌, Bool, false, cond, Option, Some, None, is_ok, List, [], ◌∷◌, ℕ, ◌<◌, eqb, ℤ, pos, length, get_or}
 use Rattle.sweep.specs.Created.{dropped}
 use Rattle.planner.specs.declared.Job.{Job}
 use Rattle.planner.specs.declared.Jobs.{Jobs}
 use Rattle.planner.specs.declared.Plan.{Plan}
-use Rattle.planner.specs.declared.Answer.{Answer}
-use Rattle.planner.specs.declared.Answer.TheVariants.{Fits, Overloaded}
 use Rattle.planner.specs.declared.Updated.{Updated}
 use Rattle.planner.specs.declared.Loaded.{Loaded}
 use Rattle.planner.specs.Instants.{amount}
@@ -28,18 +25,13 @@ abbrev pub outcome : Plan → Call → Updated
 outcome plan (load jobs capacity) = without_places (loaded plan jobs capacity)
 outcome plan (update id earliest latest) = updated plan id earliest latest
 
-abbrev pub accepted : Answer → Bool
-accepted Fits = true
-accepted Overloaded = true
-accepted (Answer.Refused why) = false
-
 -- the plan after some calls
 abbrev pub plan_after : Plan → List Call → Plan
 plan_after plan [] = plan
 plan_after plan (c ∷ cs) = plan_after (outcome plan c).plan cs
 
 -- what a call tells of the jobs: a load, for each input job its id or that it is dropped; an update, nothing
-abbrev pub tells : Plan → Call → List Placed
+abbrev pub tells : Plan → Call → List (Option ℕ)
 tells plan (load jobs capacity) = (loaded plan jobs capacity).placed
 tells plan (update id earliest latest) = []
 
@@ -48,7 +40,7 @@ tells plan (update id earliest latest) = []
 pub record Heard : Type 0 where
   pub capacity : ℤ
   pub jobs : List Job
-  pub told : List Placed
+  pub told : List (Option ℕ)
 
 abbrev pub nothing : Heard
 nothing = record { capacity = pos 0; jobs = []; told = [] }
@@ -60,27 +52,32 @@ job_at h p = get_or h.jobs p no_job
 -- it was told the id i
 pub record Told (h : Heard) (p i : ℕ) : Type 0 where
   pub inside : p < length h.jobs
-  pub id : get_or h.told p dropped ≡ record { kept = true; id = i }
+  pub id : get_or h.told p dropped ≡ Some i
 
 -- a job with other bounds, and the jobs where the one that was told an id has them
 abbrev pub rebounded : Job → ℤ → ℤ → Job
 rebounded j earliest latest = record { earliest = earliest; latest = latest; duration = j.duration; usage = j.usage }
 
-unfoldable pub rebounding : ℕ → ℤ → ℤ → List Placed → List Job → List Job
+-- the id that was told, if one was, is this
+abbrev pub is_told : Option ℕ → ℕ → Bool
+is_told None id = false
+is_told (Some i) id = eqb i id
+
+unfoldable pub rebounding : ℕ → ℤ → ℤ → List (Option ℕ) → List Job → List Job
 rebounding id earliest latest [] js = js
 rebounding id earliest latest (p ∷ ps) [] = []
 rebounding id earliest latest (p ∷ ps) (j ∷ js) =
-    cond (p.kept && eqb p.id id) (rebounded j earliest latest) j ∷ rebounding id earliest latest ps js
+    cond (is_told p id) (rebounded j earliest latest) j ∷ rebounding id earliest latest ps js
 
 -- an accepted load sets them, an accepted update gives one job other bounds
-abbrev pub hear : Heard → Call → List Placed → Heard
+abbrev pub hear : Heard → Call → List (Option ℕ) → Heard
 hear h (load jobs capacity) told = record { capacity = capacity; jobs = jobs_of jobs; told = told }
 hear h (update id earliest latest) told =
     record { capacity = h.capacity; jobs = rebounding (amount id) earliest latest h.told h.jobs; told = h.told }
 
 -- a refused call says nothing
 abbrev pub last_heard : Plan → Heard → Call → Heard
-last_heard plan h c = cond (accepted (outcome plan c).answer) (hear h c (tells plan c)) h
+last_heard plan h c = cond (is_ok (outcome plan c).answer) (hear h c (tells plan c)) h
 
 -- what is known after some calls of a plan
 abbrev pub heard_after : Plan → Heard → List Call → Heard

@@ -3,9 +3,11 @@ pub mod Ranges
 pub mod Instants
 pub mod Running
 pub mod Checks
+pub mod Bounds
 pub mod Given
 pub mod Kept
 pub mod Records
+pub mod Contents
 pub mod Sound
 pub mod Answers
 pub mod Loads

@@ -1,6 +1,5 @@
 -- What an accepted load answers for each input job: that it is dropped, or the id under which it is known from then on.
-use Rattle.std.specs.Prelude.{◌≡◌, ◌⊎◌, ℕ, pos, get_or}
-use Rattle.sweep.specs.declared.util.Placed.{Placed}
+use Rattle.std.specs.Prelude.{◌≡◌, ◌⊎◌, Option, ℕ, pos, get_or}
 use Rattle.sweep.specs.Tasks.{tasks_of, task_at}
 use Rattle.sweep.specs.Created.{dropped}
 use Rattle.planner.specs.declared.Job.{Job}
@@ -15,7 +14,7 @@ use Rattle.planner.specs.Refused.{HasTask}
 abbrev pub input_at : Jobs → ℕ → Job
 input_at jobs i = get_or (jobs_of jobs) i no_job
 
-abbrev pub place_of : Loaded → ℕ → Placed
+abbrev pub place_of : Loaded → ℕ → Option ℕ
 place_of l i = get_or l.placed i dropped
 
 -- a job with usage 0 or duration 0

@@ -1,9 +1,7 @@
 -- Document 01's number of each refusal, and what a caller hears of a check.
-use Rattle.std.specs.Prelude.{ℕ}
+use Rattle.std.specs.Prelude.{Result, Ok, Err, ℕ}
 use Rattle.planner.specs.declared.Refusal.{Refusal}
 use Rattle.planner.specs.declared.Refusal.TheVariants.{TooManyJobs, CapacityOutOfRange, BoundOutOfRange, BoundsCrossed, DurationOutOfRange, UsageOutOfRange, UnknownTask, TooManyRows, Stale, ShortSlice, Unreadable}
-use Rattle.planner.specs.declared.Checked.{Checked}
-use Rattle.planner.specs.declared.Checked.TheVariants.{Accepted, Refused}
 
 abbrev pub number_of : Refusal → ℕ
 number_of TooManyJobs = 1
@@ -23,6 +21,6 @@ pub data Verdict : Type 0 where
   admitted : Verdict
   refused : ℕ → Verdict
 
-abbrev pub verdict : Checked → Verdict
-verdict Accepted = admitted
-verdict (Refused why) = refused (number_of why)
+abbrev pub verdict : {A : Type 0} → Result A Refusal → Verdict
+verdict (Ok _) = admitted
+verdict (Err why) = refused (number_of why)

@@ -12,25 +12,12 @@ use Rattle.sweep.specs.Tasks.{tasks_of, task_at, part_of}
 use Rattle.planner.specs.declared.Job.{Job}
 use Rattle.planner.specs.declared.Jobs.{Jobs}
 use Rattle.planner.specs.declared.Plan.{Plan}
-use Rattle.planner.specs.declared.Answer.{Answer}
-use Rattle.planner.specs.declared.FirstFit.{FirstFit}
-use Rattle.planner.specs.Refusals.{number_of, Verdict, admitted, refused}
+use Rattle.planner.specs.Refusals.{Verdict, admitted, refused}
 use Rattle.planner.specs.Ranges.{InRange, capacities}
 use Rattle.planner.specs.Instants.{tick, amount}
 use Rattle.planner.specs.Given.{BoundsGiven, JobGiven, no_job}
 use Rattle.planner.specs.Loads.{jobs_of}
 use Rattle.planner.specs.Updates.{bounded}
-
--- whether an answer is a refusal, and its number
-abbrev pub judged : Answer → Verdict
-judged Answer.Fits = admitted
-judged Answer.Overloaded = admitted
-judged (Answer.Refused why) = refused (number_of why)
-
-abbrev pub fit_judged : FirstFit → Verdict
-fit_judged (FirstFit.Start z) = admitted
-fit_judged FirstFit.Nowhere = admitted
-fit_judged (FirstFit.Refused why) = refused (number_of why)
 
 -- the job at the place k is accepted
 abbrev pub JobTaken : List Job → ℕ → Type 0

@@ -1,19 +1,20 @@
 -- Whether the table is stale, as a caller can tell who only hears the answers. That the rows are refused with 9 exactly then is proved (proofs/HeardStale.antt).
-use Rattle.std.specs.Prelude.{Bool, true, false, List, [], ◌∷◌}
+use Rattle.std.specs.Prelude.{Bool, true, false, Result, Ok, Err, List, [], ◌∷◌}
 use Rattle.planner.specs.declared.Plan.{Plan}
 use Rattle.planner.specs.declared.Answer.{Answer}
+use Rattle.planner.specs.declared.Refusal.{Refusal}
 use Rattle.planner.specs.declared.Answer.TheVariants.{Fits, Overloaded}
 use Rattle.planner.specs.History.{Call, load, update, outcome}
 
 -- a load that is overloaded makes the table stale, and one that fits makes it live; an update of a stale table makes it live if it fits, and one of a live
 -- table leaves it live; a refused call changes nothing
-abbrev pub stale_by : Call → Answer → Bool → Bool
-stale_by (load jobs capacity) Fits stale = false
-stale_by (load jobs capacity) Overloaded stale = true
-stale_by (load jobs capacity) (Answer.Refused why) stale = stale
-stale_by (update id earliest latest) Fits stale = false
-stale_by (update id earliest latest) Overloaded stale = stale
-stale_by (update id earliest latest) (Answer.Refused why) stale = stale
+abbrev pub stale_by : Call → Result Answer Refusal → Bool → Bool
+stale_by (load jobs capacity) (Ok Fits) stale = false
+stale_by (load jobs capacity) (Ok Overloaded) stale = true
+stale_by (load jobs capacity) (Err why) stale = stale
+stale_by (update id earliest latest) (Ok Fits) stale = false
+stale_by (update id earliest latest) (Ok Overloaded) stale = stale
+stale_by (update id earliest latest) (Err why) stale = stale
 
 -- after some calls of a plan
 abbrev pub stale_after : Plan → Bool → List Call → Bool

@@ -9,25 +9,46 @@ pub mod questions;
 pub mod records;
 pub mod update;
 
-ghost use Rattle.std.specs.Prelude.{◌≡◌, []};
-ghost use Rattle.planner.specs.Refusals.{number_of};
+ghost use Rattle.std.specs.Prelude.{◌≡◌, ◌≤◌, []};
+ghost use Rattle.planner.specs.History.{without_places};
 ghost use Rattle.planner.specs.Kept.{jobs_with, keeping};
+ghost use Rattle.planner.specs.Loads.{with_places};
+ghost use Rattle.planner.specs.Questions.{records_of};
+ghost use Rattle.planner.specs.Ranges.{last_start};
+ghost use Rattle.planner.specs.Records.{ids_of};
+ghost use Rattle.planner.specs.Refusals.{number_of};
 
+use std::marker::Model;
 use sweep::Tasks;
-use sweep::util::Placed;
 use time_table::{Row, Table};
 
 // A plan: the time-table, the tasks by id, the capacity, and whether the table is live or stale. A
-// stale table has no rows.
+// stale table has no rows. Every plan is sound.
 //
 // Here and in what holds a table, a plan or rows, the large field comes first: the compiler makes fewer
 // copies of such a struct than of one that starts with a small field.
+//
 #[derive(Clone, Copy)]
 pub struct Plan {
     pub(crate) table: Table,
     pub(crate) tasks: Tasks,
     pub(crate) capacity: u32,
     pub(crate) live: bool,
+}
+
+// A contract sees a plan's contents, and may take every plan for sound.
+impl Model for Plan {
+    ghost use Rattle.planner.specs.Contents.{Contents};
+
+    ghost Value = { Contents };
+
+    ghost use Rattle.planner.specs.Sound.{Sound};
+
+    ghost view = { λ p. record { table = p.table; tasks = p.tasks; capacity = p.capacity; live = p.live } };
+
+    ghost invariant = { λ p. Sound (record { table = p.table; tasks = p.tasks; capacity = p.capacity; live = p.live }) };
+
+    ghost inverse = { λ p. record { table = p.table; tasks = p.tasks; capacity = p.capacity; live = p.live } };
 }
 
 impl Plan {
@@ -46,7 +67,7 @@ impl Plan {
 }
 
 // A job as a caller hands it in, checked at the load.
-#[derive(Clone, Copy)]
+#[derive(Clone, Copy, Default)]
 pub struct Job {
     pub earliest: i32,
     pub latest: i32,
@@ -54,7 +75,19 @@ pub struct Job {
     pub usage: i32,
 }
 
+// Start bounds in ticks, as an update hands them on.
+#[derive(Clone, Copy)]
+pub(crate) struct Bounds {
+    pub(crate) earliest: u32,
+    pub(crate) latest: u32,
+    ghost ordered: { earliest ≤ latest },
+    ghost low: { latest ≤ last_start },
+}
+
 // The jobs of a load, in `list` up to `count`.
+//
+// Stays as it is: the count goes to 33, which says that a job too many was kept (`keeping` in specs/Kept.antt;
+// `keep_refused`).
 #[derive(Clone, Copy)]
 pub struct Jobs {
     pub list: [Job; Plan::JOBS],
@@ -66,14 +99,8 @@ impl Jobs {
     pub fn empty() -> Jobs
         ensures { result ≡ jobs_with [] }
     {
-        let none = Job {
-            earliest: 0,
-            latest: 0,
-            duration: 0,
-            usage: 0,
-        };
         Jobs {
-            list: [none; Plan::JOBS],
+            list: [Job::default(); Plan::JOBS],
             count: 0,
         }
     }
@@ -96,6 +123,7 @@ impl Jobs {
 }
 
 // A row as a caller gets it: its instants from `start` to `end`, both in it, its height and its ids.
+//
 #[derive(Clone, Copy)]
 pub struct RowRecord {
     pub start: i32,
@@ -108,89 +136,109 @@ pub struct RowRecord {
 impl RowRecord {
     // A row lists at most so many ids.
     pub const IDS: usize = Row::IDS;
+
+    // The ids that it lists, in order.
+    pub fn ids(&self) -> &[u8]
+        requires { self.now.count ≤ 32 }
+        ensures { result.now ≡ ids_of self.now }
+    {
+        &self.ids[..self.count]
+    }
 }
 
-// Why a call is refused.
-#[derive(Clone, Copy)]
+// Why a call is refused, with its number in docs/SCOPE.md.
+#[derive(Clone, Copy, Debug, PartialEq, Eq)]
 pub enum Refusal {
-    TooManyJobs,
-    CapacityOutOfRange,
-    BoundOutOfRange,
-    BoundsCrossed,
-    DurationOutOfRange,
-    UsageOutOfRange,
-    UnknownTask,
-    TooManyRows,
-    Stale,
-    ShortSlice,
-    Unreadable,
+    TooManyJobs = 1,
+    CapacityOutOfRange = 2,
+    BoundOutOfRange = 3,
+    BoundsCrossed = 4,
+    DurationOutOfRange = 5,
+    UsageOutOfRange = 6,
+    UnknownTask = 7,
+    TooManyRows = 8,
+    Stale = 9,
+    ShortSlice = 10,
+    Unreadable = 11,
 }
 
 impl Refusal {
-    // Document 01's number of a refusal.
+    // The number of a refusal.
     pub fn number(self) -> u32
         ensures { result ≡ number_of self }
     {
-        match self {
-            Refusal::TooManyJobs => 1,
-            Refusal::CapacityOutOfRange => 2,
-            Refusal::BoundOutOfRange => 3,
-            Refusal::BoundsCrossed => 4,
-            Refusal::DurationOutOfRange => 5,
-            Refusal::UsageOutOfRange => 6,
-            Refusal::UnknownTask => 7,
-            Refusal::TooManyRows => 8,
-            Refusal::Stale => 9,
-            Refusal::ShortSlice => 10,
-            Refusal::Unreadable => 11,
+        self as u32
+    }
+}
+
+// The answer of a load or an update that is accepted.
+#[derive(Clone, Copy, Debug, PartialEq, Eq)]
+pub enum Answer {
+    Fits,
+    Overloaded,
+}
+
+// What an update leads to: the plan afterwards, the answer or why it is refused, and the row that is too
+// high, if one is.
+//
+// Stays as it is: the row stands beside the answer, and not in it, as docs/SCOPE.md has it (Forms).
+#[derive(Clone, Copy)]
+pub struct Updated {
+    pub plan: Plan,
+    pub answer: Result<Answer, Refusal>,
+    pub row: RowRecord,
+}
+
+// What a load leads to: the same, and for each input job its id, or none where it was dropped.
+#[derive(Clone, Copy)]
+pub struct Loaded {
+    pub plan: Plan,
+    pub answer: Result<Answer, Refusal>,
+    pub row: RowRecord,
+    pub placed: [Option<u8>; Plan::JOBS],
+}
+
+impl Updated {
+    // The same with what became of a load's jobs.
+    pub(crate) fn with_places(self, placed: [Option<u8>; Plan::JOBS]) -> Loaded
+        ensures { result ≡ with_places placed self }
+    {
+        Loaded {
+            plan: self.plan,
+            answer: self.answer,
+            row: self.row,
+            placed,
         }
     }
 }
 
-// What a check finds.
-#[derive(Clone, Copy)]
-pub enum Checked {
-    Accepted,
-    Refused(Refusal),
+impl From<Loaded> for Updated {
+    ghost from_gives = { λ loaded updated. updated ≡ without_places loaded };
+
+    // A load without what became of its jobs.
+    fn from(loaded: Loaded) -> Updated {
+        Updated {
+            plan: loaded.plan,
+            answer: loaded.answer,
+            row: loaded.row,
+        }
+    }
 }
 
-// The answer of a load or an update.
-#[derive(Clone, Copy)]
-pub enum Answer {
-    Fits,
-    Overloaded,
-    Refused(Refusal),
-}
-
-// What an update leads to: the plan afterwards, the answer, and the row that is too high, if one is.
-#[derive(Clone, Copy)]
-pub struct Updated {
-    pub plan: Plan,
-    pub answer: Answer,
-    pub row: RowRecord,
-}
-
-// What a load leads to: the same, and for each input job its id or that it was dropped.
-#[derive(Clone, Copy)]
-pub struct Loaded {
-    pub plan: Plan,
-    pub answer: Answer,
-    pub row: RowRecord,
-    pub placed: [Placed; Plan::JOBS],
-}
-
-// What a question for the first fit finds.
-#[derive(Clone, Copy)]
-pub enum FirstFit {
-    Start(i32),
-    Nowhere,
-    Refused(Refusal),
-}
-
-// The rows of a live table, in `rows` up to `count`; or a refusal and no rows.
+// The rows of a live table, in `rows` up to `count`.
+//
 #[derive(Clone, Copy)]
 pub struct Rows {
     pub rows: [RowRecord; Plan::ROWS],
     pub count: usize,
-    pub answer: Checked,
+}
+
+impl Rows {
+    // The rows, in order.
+    pub fn as_slice(&self) -> &[RowRecord]
+        requires { self.now.count ≤ 128 }
+        ensures { result.now ≡ records_of self.now }
+    {
+        &self.rows[..self.count]
+    }
 }

@@ -1,6 +1,5 @@
 pub mod Pages
-pub mod Reading
-pub mod Keeping
+pub mod Written
 pub mod Running
 pub mod Unique
 pub mod Example

@@ -1,5 +1,6 @@
 pub mod Commands
 pub mod Pages
+pub mod Written
 pub mod AnswerNumbers
 pub mod Outcomes
 pub mod Runs

@@ -2,45 +2,38 @@
 use Rattle.std.specs.Prelude.{cond, List, [], ltb, ℤ}
 use Rattle.planner.specs.declared.Jobs.{Jobs}
 use Rattle.planner.specs.declared.Plan.{Plan}
-use Rattle.planner.specs.declared.Updated.{Updated}
-use Rattle.planner.specs.declared.Answer.TheVariants.{Fits}
-use Rattle.planner.specs.Records.{no_record}
-use Rattle.planner.specs.Answers.{fresh_plan}
+use Rattle.planner.specs.declared.Refusal.TheVariants as refusal
 use Rattle.planner.specs.Kept.{jobs_with, keeping}
-use Rattle.planner.specs.History.{without_places}
 use Rattle.planner.specs.Loads.{loaded}
 use Rattle.planner.specs.Updates.{updated}
+use Rattle.planner.specs.Questions.{fit_of, rows_shown}
 use Rattle.script.specs.declared.Command.{Command}
-use Rattle.script.specs.declared.Command.TheVariants as command
-use Rattle.script.specs.declared.Change.{Change}
-use Rattle.script.specs.declared.Change.TheVariants.{Load, Update}
-use Rattle.script.specs.declared.Ask.TheVariants.{Keep, FirstFit, Rows, Unreadable}
-use Rattle.script.specs.AnswerNumbers.{answer_numbers, ask_numbers}
-
--- a run begins with a fresh plan, and as if something that fits had been answered
-abbrev pub begun : Updated
-begun = record { plan = fresh_plan; answer = Fits; row = no_record }
+use Rattle.script.specs.declared.Command.TheVariants.{Keep, Load, Update, FirstFit, Rows, Unreadable}
+use Rattle.script.specs.AnswerNumbers.{refusal_numbers, answer_numbers, fit_numbers, rows_numbers, keep_numbers}
 
 -- the jobs that are kept, up to the 32nd; a load, accepted or not, leaves none
 abbrev pub kept_after : Jobs → Command → Jobs
-kept_after jobs (command.Change (Load capacity)) = jobs_with []
-kept_after jobs (command.Change (Update id earliest latest)) = jobs
-kept_after jobs (command.Ask (Keep job)) = cond (ltb jobs.count 32) (keeping jobs job) jobs
-kept_after jobs (command.Ask (FirstFit id)) = jobs
-kept_after jobs (command.Ask Rows) = jobs
-kept_after jobs (command.Ask Unreadable) = jobs
+kept_after jobs (Keep job) = cond (ltb jobs.count 32) (keeping jobs job) jobs
+kept_after jobs (Load capacity) = jobs_with []
+kept_after jobs (Update id earliest latest) = jobs
+kept_after jobs (FirstFit id) = jobs
+kept_after jobs Rows = jobs
+kept_after jobs Unreadable = jobs
 
--- the answer of a load of the kept jobs, or of an update, and the plan afterwards
-abbrev pub called : Plan → Jobs → Change → Updated
-called plan jobs (Load capacity) = without_places (loaded plan jobs capacity)
-called plan jobs (Update id earliest latest) = updated plan id earliest latest
-
--- the plan after a command
+-- the plan after a command: a load of the kept jobs, and an update, may change it
 abbrev pub plan_after_command : Plan → Jobs → Command → Plan
-plan_after_command plan jobs (command.Change call) = (called plan jobs call).plan
-plan_after_command plan jobs (command.Ask ask) = plan
+plan_after_command plan jobs (Keep job) = plan
+plan_after_command plan jobs (Load capacity) = (loaded plan jobs capacity).plan
+plan_after_command plan jobs (Update id earliest latest) = (updated plan id earliest latest).plan
+plan_after_command plan jobs (FirstFit id) = plan
+plan_after_command plan jobs Rows = plan
+plan_after_command plan jobs Unreadable = plan
 
 -- the numbers of the answer
 abbrev pub said : Plan → Jobs → Command → List ℤ
-said plan jobs (command.Change call) = answer_numbers (called plan jobs call).answer (called plan jobs call).row
-said plan jobs (command.Ask ask) = ask_numbers plan jobs.count ask
+said plan jobs (Keep job) = keep_numbers jobs.count
+said plan jobs (Load capacity) = answer_numbers (loaded plan jobs capacity).answer (loaded plan jobs capacity).row
+said plan jobs (Update id earliest latest) = answer_numbers (updated plan id earliest latest).answer (updated plan id earliest latest).row
+said plan jobs (FirstFit id) = fit_numbers (fit_of plan id)
+said plan jobs Rows = rows_numbers (rows_shown plan)
+said plan jobs Unreadable = refusal_numbers refusal.Unreadable

@@ -1,172 +1,135 @@
-// From answers to numbers in the lent slice, as far as there is room.
-ghost use Rattle.std.specs.Prelude.{◌≡◌, [], ◌∷◌, map, ◌≤◌, take};
-ghost use Rattle.planner.specs.Sound.{Sound};
-ghost use Rattle.planner.specs.Questions.{rows_shown};
-ghost use Rattle.script.specs.AnswerNumbers.{capped, refusal_numbers, row_numbers, each, rows_numbers, answer_numbers, fit_numbers, keep_numbers, ask_numbers};
+// From answers to numbers, written behind one another into the lent slice as far as there is room.
+ghost use Rattle.std.specs.Prelude.{◌≡◌, [], ◌∷◌, ◌≤◌, IfOk};
 ghost use Rattle.planner.specs.Shown.{Shown};
-ghost use Rattle.script.specs.Pages.{page_of, put, puts};
+ghost use Rattle.script.specs.AnswerNumbers.{capped, refusal_numbers, row_numbers, rows_numbers, answer_numbers, fit_numbers};
 
-use crate::Ask;
-use planner::{Answer, Checked, FirstFit, Plan, Refusal, RowRecord, Rows};
+use planner::{Answer, Refusal, RowRecord, Rows};
+
+// The kinds of answers.
+// Stays as it is: the C interface (library/pass_planner.h) has these numbers.
+const FITS: i32 = 0;
+
+const OVERLOADED: i32 = 1;
+
+const REFUSED: i32 = 2;
+
+const START: i32 = 3;
+
+const NOWHERE: i32 = 4;
+
+const TABLE: i32 = 5;
 
 // An amount as an i32; 2147483647 stands for anything greater.
+#[tactic(auto, using(std::proofs::lemmas::Int::ints), unfolding(crate::specs::AnswerNumbers::capped))]
 fn signed(amount: u64) -> i32
     ensures { result ≡ capped amount }
 {
-    if amount < 2147483647 {
-        return amount as i32;
+    i32::try_from(amount).unwrap_or(i32::MAX)
+}
+
+// A lent slice that is written from its front on, and how many of its places are written.
+// Stays as it is: a slice with a count, since the memory is the caller's and there is no heap. The writer of
+// `command` is another, since what it is given has to fit, and here the rest is cut off.
+#[derive(Drop)]
+pub(crate) struct Writer<'a> {
+    pub(crate) out: &'a mut [i32],
+    pub(crate) len: usize,
+}
+
+impl<'a> Writer<'a> {
+    ghost use Rattle.script.specs.Written.{Written};
+
+    // Nothing is written yet.
+    pub(crate) fn new(out: &'a mut [i32]) -> Writer<'a>
+        ensures same_slice { result.out.ghost_name ≡ out.entry.ghost_name }
+        ensures unchanged { result.out.now ≡ out.old }
+        ensures empty { result.len ≡ 0 }
+    {
+        Writer { out, len: 0 }
     }
-    2147483647
-}
 
-// Writes a number behind so many others, if there is room, and returns how many there are then.
-fn put(answers: &mut [i32], written: usize, number: i32) -> usize
-    ensures { page_of answers.new result ≡ put (page_of answers.old written) number }
-{
-    if written < answers.len() {
-        answers[written] = number;
-        return written + 1;
-    }
-    written
-}
-
-// Writes two numbers.
-fn put_two(answers: &mut [i32], written: usize, first: i32, second: i32) -> usize
-    ensures { page_of answers.new result ≡ puts (page_of answers.old written) (first ∷ second ∷ []) }
-{
-    let next = put(answers, written, first);
-    put(answers, next, second)
-}
-
-// Writes four numbers.
-fn put_four(answers: &mut [i32], written: usize, a: i32, b: i32, c: i32, d: i32) -> usize
-    ensures { page_of answers.new result ≡ puts (page_of answers.old written) (a ∷ b ∷ c ∷ d ∷ []) }
-{
-    let next = put_two(answers, written, a, b);
-    put_two(answers, next, c, d)
-}
-
-// Writes the first ids of a row.
-fn put_ids(answers: &mut [i32], written: usize, ids: [u8; 32], count: usize) -> usize
-    requires { count ≤ 32 }
-    ensures { page_of answers.new result ≡ puts (page_of answers.old written) (map capped (take count ids)) }
-{
-    let mut next = written;
-    let mut i = 0;
-    while i < count {
-        let id = ids[i];
-        next = put(answers, next, signed(id as u64));
-        i += 1;
-    }
-    next
-}
-
-// Writes a row.
-fn put_row(answers: &mut [i32], written: usize, row: RowRecord) -> usize
-    requires { row.count ≤ 32 }
-    ensures { page_of answers.new result ≡ puts (page_of answers.old written) (row_numbers row) }
-{
-    let height = signed(row.height as u64);
-    let count = signed(row.count as u64);
-    let next = put_four(answers, written, row.start, row.end, height, count);
-    let ids = row.ids;
-    put_ids(answers, next, ids, row.count)
-}
-
-// Writes the rows that are shown.
-fn put_each(answers: &mut [i32], written: usize, shown: Rows) -> usize
-    requires { Shown shown }
-    ensures { page_of answers.new result ≡ puts (page_of answers.old written) (each (take shown.count shown.rows)) }
-{
-    let mut next = written;
-    let count = shown.count;
-    let mut i = 0;
-    while i < count {
-        let row = shown.rows[i];
-        next = put_row(answers, next, row);
-        i += 1;
-    }
-    next
-}
-
-// Writes a refusal.
-fn put_refusal(answers: &mut [i32], written: usize, why: Refusal) -> usize
-    ensures { page_of answers.new result ≡ puts (page_of answers.old written) (refusal_numbers why) }
-{
-    put_two(answers, written, 2, why.number() as i32)
-}
-
-// Writes the rows of a plan, or why they are refused.
-fn put_rows(answers: &mut [i32], written: usize, plan: Plan) -> usize
-    requires { Sound plan }
-    ensures { page_of answers.new result ≡ puts (page_of answers.old written) (rows_numbers (rows_shown plan)) }
-{
-    let shown = plan.rows();
-    let answer = shown.answer;
-    match answer {
-        Checked::Refused(why) => put_refusal(answers, written, why),
-        Checked::Accepted => {
-            let next = put_two(answers, written, 5, signed(shown.count as u64));
-            put_each(answers, next, shown)
+    // One number, if there is room.
+    #[tactic(auto, using(crate::proofs::Pages::put_room, crate::proofs::Pages::put_full), unfolding(crate::specs::Pages::puts))]
+    fn put(&mut self, number: i32)
+        ensures { Written self.old (number ∷ []) self.new }
+    {
+        if self.len < self.out.len() {
+            self.out[self.len] = number;
+            self.len += 1;
         }
     }
-}
 
-// Writes the answer of a load or an update.
-pub(crate) fn put_answer(
-    answers: &mut [i32],
-    written: usize,
-    answer: Answer,
-    row: RowRecord,
-) -> usize
-    ensures { page_of answers.new result ≡ puts (page_of answers.old written) (answer_numbers answer row) }
-{
-    match answer {
-        Answer::Fits => put(answers, written, 0),
-        Answer::Overloaded => {
-            let height = signed(row.height as u64);
-            put_four(answers, written, 1, row.start, row.end, height)
+    // Numbers, one behind another.
+    fn put_all(&mut self, numbers: &[i32])
+        ensures { Written self.old numbers.now self.new }
+    {
+        for number in numbers {
+            self.put(*number);
         }
-        Answer::Refused(why) => put_refusal(answers, written, why),
     }
-}
 
-// Writes the answer of a question for the first fit.
-fn put_fit(answers: &mut [i32], written: usize, fit: FirstFit) -> usize
-    ensures { page_of answers.new result ≡ puts (page_of answers.old written) (fit_numbers fit) }
-{
-    match fit {
-        FirstFit::Start(start) => put_two(answers, written, 3, start),
-        FirstFit::Nowhere => put(answers, written, 4),
-        FirstFit::Refused(why) => put_refusal(answers, written, why),
+    // A refusal.
+    pub(crate) fn put_refusal(&mut self, why: Refusal)
+        ensures { Written self.old (refusal_numbers why) self.new }
+    {
+        self.put_all(&[REFUSED, why.number() as i32]);
     }
-}
 
-// Writes the refusal of a job where so many are kept that it is one too many.
-fn put_kept(answers: &mut [i32], written: usize, count: usize) -> usize
-    ensures { page_of answers.new result ≡ puts (page_of answers.old written) (keep_numbers count) }
-{
-    if count < Plan::JOBS {
-        return written;
+    // The answer of a load or an update.
+    pub(crate) fn put_answer(&mut self, answer: Result<Answer, Refusal>, row: RowRecord)
+        ensures { Written self.old (answer_numbers answer row) self.new }
+    {
+        match answer {
+            Ok(Answer::Fits) => self.put(FITS),
+            Ok(Answer::Overloaded) => {
+                self.put_all(&[
+                    OVERLOADED,
+                    row.start,
+                    row.end,
+                    signed(u64::from(row.height)),
+                ]);
+            }
+            Err(why) => self.put_refusal(why),
+        }
     }
-    put_refusal(answers, written, Refusal::TooManyJobs)
-}
 
-// Writes the answer of a command that leaves the plan as it is, where so many jobs are kept.
-pub(crate) fn put_ask(
-    answers: &mut [i32],
-    written: usize,
-    plan: Plan,
-    count: usize,
-    ask: Ask,
-) -> usize
-    requires { Sound plan }
-    ensures { page_of answers.new result ≡ puts (page_of answers.old written) (ask_numbers plan count ask) }
-{
-    match ask {
-        Ask::Keep(_) => put_kept(answers, written, count),
-        Ask::FirstFit(id) => put_fit(answers, written, plan.first_fit(id)),
-        Ask::Rows => put_rows(answers, written, plan),
-        Ask::Unreadable => put_refusal(answers, written, Refusal::Unreadable),
+    // The answer of a question for the first fit.
+    pub(crate) fn put_fit(&mut self, fit: Result<Option<i32>, Refusal>)
+        ensures { Written self.old (fit_numbers fit) self.new }
+    {
+        match fit {
+            Ok(Some(start)) => self.put_all(&[START, start]),
+            Ok(None) => self.put(NOWHERE),
+            Err(why) => self.put_refusal(why),
+        }
+    }
+
+    // A row.
+    fn put_row(&mut self, row: &RowRecord)
+        requires { row.now.count ≤ 32 }
+        ensures { Written self.old (row_numbers row.now) self.new }
+    {
+        let height = signed(u64::from(row.height));
+        let count = signed(row.count as u64);
+        self.put_all(&[row.start, row.end, height, count]);
+        for id in row.ids() {
+            self.put(signed(u64::from(*id)));
+        }
+    }
+
+    // The answer of a question for the rows.
+    pub(crate) fn put_rows(&mut self, shown: Result<Rows, Refusal>)
+        requires { IfOk shown Shown }
+        ensures { Written self.old (rows_numbers shown) self.new }
+    {
+        match shown {
+            Ok(rows) => {
+                self.put_all(&[TABLE, signed(rows.count as u64)]);
+                for row in rows.as_slice() {
+                    self.put_row(row);
+                }
+            }
+            Err(why) => self.put_refusal(why),
+        }
     }
 }

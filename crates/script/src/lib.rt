@@ -4,35 +4,24 @@
 
 mod answers;
 mod parse;
-mod session;
 
 ghost use Rattle.std.specs.Prelude.{◌≡◌, length, min};
 ghost use Rattle.script.specs.Runs.{run};
 ghost use Rattle.script.specs.Pages.{overlaid};
 
-use planner::{Job, Jobs, Plan};
+use crate::answers::Writer;
+use planner::{Answer, Job, Jobs, Plan, Refusal, Updated, records};
 
-// A command that may change the plan.
+// One command of a script.
+// Stays as it is: `Unreadable` is a case and no `None`, since it is answered in the same match as the others.
 #[derive(Clone, Copy)]
-pub enum Change {
+pub enum Command {
+    Keep(Job),
     Load(i32),
     Update(i32, i32, i32),
-}
-
-// A command that leaves the plan as it is.
-#[derive(Clone, Copy)]
-pub enum Ask {
-    Keep(Job),
     FirstFit(i32),
     Rows,
     Unreadable,
-}
-
-// One command of a script.
-#[derive(Clone, Copy)]
-pub enum Command {
-    Change(Change),
-    Ask(Ask),
 }
 
 // Runs a script on a fresh plan, writes the answers as far as there is room, and returns how many
@@ -41,38 +30,38 @@ pub fn pass_planner_run(script: &[i32], answers: &mut [i32]) -> usize
     ensures answers_after { answers.new ≡ overlaid (run script.now) answers.old }
     ensures value { result ≡ min (length (run script.now)) (length answers.old) }
 {
-    let mut state = session::begun();
+    // The plan, with what the last load or update answered: what the planner gives goes there as it is.
+    let mut state = Updated {
+        plan: Plan::fresh(),
+        answer: Ok(Answer::Fits),
+        row: records::no_record(),
+    };
     let mut jobs = Jobs::empty();
-    let mut written = 0;
-    let mut at = 0;
-    while at < script.len() {
-        let command = parse::command_at(script, at);
+    let mut out = Writer::new(answers);
+    let mut rest = script;
+    while !rest.is_empty() {
+        let (command, behind) = parse::next_command(rest);
+        rest = behind;
         match command {
-            Command::Change(call) => match call {
-                Change::Load(capacity) => {
-                    state = session::load(state.plan, jobs, capacity);
-                    jobs = Jobs::empty();
-                    let answer = state.answer;
-                    written = answers::put_answer(answers, written, answer, state.row);
-                }
-                Change::Update(id, earliest, latest) => {
-                    state = state.plan.update(id, earliest, latest);
-                    let answer = state.answer;
-                    written = answers::put_answer(answers, written, answer, state.row);
-                }
-            },
-            Command::Ask(ask) => {
-                let n = jobs.count;
-                written = answers::put_ask(answers, written, state.plan, n, ask);
-                if let Ask::Keep(job) = ask {
-                    if n < Plan::JOBS {
-                        jobs.list[n] = job;
-                        jobs.count = n + 1;
-                    }
-                }
+            // Stays as it is: put in its place by hand, since `jobs = jobs.keep(job)` copies the list twice.
+            Command::Keep(job) if jobs.count < Plan::JOBS => {
+                jobs.list[jobs.count] = job;
+                jobs.count += 1;
             }
+            Command::Keep(_) => out.put_refusal(Refusal::TooManyJobs),
+            Command::Load(capacity) => {
+                state = Updated::from(state.plan.load(jobs, capacity));
+                jobs = Jobs::empty();
+                out.put_answer(state.answer, state.row);
+            }
+            Command::Update(id, earliest, latest) => {
+                state = state.plan.update(id, earliest, latest);
+                out.put_answer(state.answer, state.row);
+            }
+            Command::FirstFit(id) => out.put_fit(state.plan.first_fit(id)),
+            Command::Rows => out.put_rows(state.plan.rows()),
+            Command::Unreadable => out.put_refusal(Refusal::Unreadable),
         }
-        at = at + 1 + parse::arguments_of(command, script.len() - at - 1);
     }
-    written
+    out.len
 }

@@ -1,97 +1,44 @@
 // From the numbers of a script to its commands.
-ghost use Rattle.std.specs.Prelude.{◌≡◌, ◌&&◌, ◌<◌, eqb, leb, pos, length, get_or, drop};
-ghost use Rattle.script.specs.Commands.{kind_of, command_of_kind, command_at, arguments_of};
+ghost use Rattle.std.specs.Prelude.{◌≡◌, ◌+◌, ◌-◌, length, drop};
+ghost use Rattle.script.specs.Commands.{command_at, arguments_of};
 
-use crate::{Ask, Change, Command};
+use crate::Command;
 use planner::Job;
 
-// The number at a place of a script, and 0 past its end.
-fn number_at(script: &[i32], at: usize) -> i32
-    ensures { result ≡ get_or script.now at (pos 0) }
-{
-    if at < script.len() {
-        return script[at];
-    }
-    0
-}
+// The kinds of commands.
+// Stays as it is: the C interface (library/pass_planner.h) has these numbers.
+const KEEP: i32 = 1;
 
-// The kind of a command by its first number; no kind is 0.
-fn kind_of(x: i32) -> u32
-    ensures { result ≡ kind_of x }
-{
-    if x < 0 {
-        return 0;
-    }
-    x as u32
-}
+const LOAD: i32 = 2;
 
-// Whether a command is of this kind and has all its numbers.
-fn is_whole(kind: u32, left: usize, wanted: u32, numbers: usize) -> bool
-    ensures { result ≡ (eqb kind wanted && leb numbers left) }
-{
-    if kind == wanted {
-        return numbers <= left;
-    }
-    false
-}
+const UPDATE: i32 = 3;
 
-// The command of a kind, with the numbers behind the kind. `left`: how many numbers the script has from
-// the kind on, the kind included.
-fn command_of(kind: u32, left: usize, a: i32, b: i32, c: i32, d: i32) -> Command
-    ensures { result ≡ command_of_kind kind left a b c d }
-{
-    if is_whole(kind, left, 1, 5) {
-        return Command::Ask(Ask::Keep(Job {
-            earliest: a,
-            latest: b,
-            duration: c,
-            usage: d,
-        }));
-    }
-    if is_whole(kind, left, 2, 2) {
-        return Command::Change(Change::Load(a));
-    }
-    if is_whole(kind, left, 3, 4) {
-        return Command::Change(Change::Update(a, b, c));
-    }
-    if is_whole(kind, left, 4, 2) {
-        return Command::Ask(Ask::FirstFit(a));
-    }
-    if is_whole(kind, left, 5, 1) {
-        return Command::Ask(Ask::Rows);
-    }
-    Command::Ask(Ask::Unreadable)
-}
+const FIRST_FIT: i32 = 4;
 
-// The command that starts at a place of a script.
-pub(crate) fn command_at(script: &[i32], at: usize) -> Command
-    requires { at < length script.now }
-    ensures { result ≡ command_at (drop at script.now) }
-{
-    command_of(
-        kind_of(number_at(script, at)),
-        script.len() - at,
-        number_at(script, at + 1),
-        number_at(script, at + 2),
-        number_at(script, at + 3),
-        number_at(script, at + 4),
-    )
-}
+const ROWS: i32 = 5;
 
-// How many numbers a command has behind its kind; one that cannot be read has all that are left.
-pub(crate) fn arguments_of(command: Command, rest: usize) -> usize
-    ensures { result ≡ arguments_of command rest }
+// The command that a script starts with, and what follows it. Nothing follows one that cannot be read.
+#[tactic(auto, unfolding(crate::specs::Commands::command_at, crate::specs::Commands::command_of_kind))]
+pub(crate) fn next_command(script: &[i32]) -> (Command, &[i32])
+    ensures command { result.0 ≡ command_at script.now }
+    ensures rest { result.1.now ≡ drop (arguments_of result.0 (length script.now - 1) + 1) script.now }
 {
-    match command {
-        Command::Change(call) => match call {
-            Change::Load(_) => 1,
-            Change::Update(_, _, _) => 3,
-        },
-        Command::Ask(ask) => match ask {
-            Ask::Keep(_) => 4,
-            Ask::FirstFit(_) => 1,
-            Ask::Rows => 0,
-            Ask::Unreadable => rest,
-        },
+    match script {
+        [KEEP, earliest, latest, duration, usage, rest @ ..] => {
+            let job = Job {
+                earliest: *earliest,
+                latest: *latest,
+                duration: *duration,
+                usage: *usage,
+            };
+            (Command::Keep(job), rest)
+        }
+        [LOAD, capacity, rest @ ..] => (Command::Load(*capacity), rest),
+        [UPDATE, id, earliest, latest, rest @ ..] => {
+            (Command::Update(*id, *earliest, *latest), rest)
+        }
+        [FIRST_FIT, id, rest @ ..] => (Command::FirstFit(*id), rest),
+        [ROWS, rest @ ..] => (Command::Rows, rest),
+        _ => (Command::Unreadable, &[]),
     }
 }

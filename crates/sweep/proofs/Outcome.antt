@@ -2,13 +2,13 @@
 -- without such a row is one that the edits go on from.
 -- Assumes nothing.
 use mathlib.Core.Path.{◌≡◌, refl, sym, ap, ◌∙◌, subst}
-use mathlib.Core.Bool.{Bool, true, false, cond, true≢false}
 use mathlib.Core.Logic.{⊎_elim}
-use mathlib.Core.List.{List, [], ◌∷◌}
+use mathlib.Core.List.{List}
 use Prim.Native.Nat.{ℕ, ◌<◌}
 use native.Mathlib.Omega.{arith}
-use lib.Dec.{ltb}
+use Rattle.std.proofs.Common.{Option, Some, None, Result, Ok, Err}
 use Rattle.time_table.specs.declared.Row.{Row}
+use Rattle.time_table.specs.declared.Table.{Table}
 use Rattle.time_table.specs.Held.{Held}
 use Rattle.time_table.specs.Rows.{empty_row, table_of, row_at, rows_of}
 use Rattle.time_table.specs.Order.{Arranged}
@@ -19,25 +19,12 @@ use Rattle.time_table.proofs.Overloaded.{conflict_row, conflict_none_over}
 use Rattle.time_table.proofs.Held.{held_self, held_list}
 use Rattle.sweep.specs.declared.Task.{Task}
 use Rattle.sweep.specs.declared.Tasks.{Tasks}
-use Rattle.sweep.specs.declared.time_table_over_interval.Swept.{Swept}
 use Rattle.sweep.specs.Tasks.{tasks_of, runs, usage_of, Sweepable}
-use Rattle.sweep.specs.Sweep.{sweep, swept}
+use Rattle.sweep.specs.Sweep.{sweep, swept_by, swept}
 use Rattle.sweep.specs.Sentence.{SweptOf}
 use Rattle.sweep.proofs.Sentence.{sweep_is, sweep_unique}
 use Rattle.sweep.proofs.SweepRows.{sweep_length}
 use Rattle.sweep.proofs.Right.{sweep_right}
-
--- without a row that is too high there is none to show
-no_conflict : (capacity : ℕ) (rows : List Row) → (conflict_in capacity rows).found ≡ false → (conflict_in capacity rows).row ≡ empty_row
-unfolding conflict_in
-no_conflict capacity [] e = refl
-no_conflict capacity (r ∷ rs) e = go (ltb capacity r.height) e (no_conflict capacity rs)
-  where
-    go : (b : Bool) → (cond b (record { found = true; row = r }) (conflict_in capacity rs)).found ≡ false
-        → ((conflict_in capacity rs).found ≡ false → (conflict_in capacity rs).row ≡ empty_row)
-        → (cond b (record { found = true; row = r }) (conflict_in capacity rs)).row ≡ empty_row
-    go true e rec = absurd (true≢false e)
-    go false e rec = rec e
 
 module _ (capacity : ℕ) (rows : List Row) where
   -- one row is the earliest that is too high, and only where some row is
@@ -59,63 +46,64 @@ module _ (capacity : ℕ) (rows : List Row) where
 
 -- the answer is what the document's sentence says, and no other is
 module _ (capacity : ℕ) (ts : List Task) where
+  pub over_is : (r : Row) → swept capacity ts ≡ Err r → conflict_in capacity (sweep ts) ≡ Some r
+  over_is r e = go (conflict_in capacity (sweep ts)) refl e
+    where
+      go : (c : Option Row) → conflict_in capacity (sweep ts) ≡ c → swept_by c (sweep ts) ≡ Err r → conflict_in capacity (sweep ts) ≡ Some r
+      go (Some q) is e = is ∙ (let same : q ≡ r = cc in ap Some same)
+      go None is e = absurd (cc)
+
+  pub fits_is : (t : Table) → swept capacity ts ≡ Ok t → (conflict_in capacity (sweep ts) ≡ None) × (t ≡ table_of (sweep ts))
+  fits_is t e = go (conflict_in capacity (sweep ts)) refl e
+    where
+      go : (c : Option Row) → conflict_in capacity (sweep ts) ≡ c → swept_by c (sweep ts) ≡ Ok t
+          → (conflict_in capacity (sweep ts) ≡ None) × (t ≡ table_of (sweep ts))
+      go (Some q) is e = absurd (cc)
+      go None is e = (is, cc)
+
   pub swept_is : SweptOf capacity ts (swept capacity ts)
   swept_is =
       record {
         rows = sweep ts;
         sweeps = sweep_is ts;
-        over = λ e. (conflict_row capacity (sweep ts) e, rw e refl);
-        fits = λ e. (conflict_none_over capacity (sweep ts) e, rw e refl, no_conflict capacity (sweep ts) e);
+        over = λ r e. conflict_row capacity (sweep ts) r (over_is r e);
+        fits = λ t e. let w = fits_is t e in (conflict_none_over capacity (sweep ts) w.0, w.1);
       }
 
-  pub swept_unique : (s : Swept) → SweptOf capacity ts s → s ≡ swept capacity ts
-  unfolding swept_is
-  swept_unique s w = go s.overloaded refl (swept capacity ts).overloaded refl
+  pub swept_unique : (s : Result Table Row) → SweptOf capacity ts s → s ≡ swept capacity ts
+  swept_unique s w = go s refl (conflict_in capacity (sweep ts)) refl
     where
-      v : SweptOf capacity ts (swept capacity ts)
-      v = swept_is
-
       same : w.rows ≡ sweep ts
       same = sweep_unique ts w.rows w.sweeps
 
-      over : s.overloaded ≡ true → FirstOver capacity (sweep ts) s.row × (s.table ≡ table_of [])
-      over = subst (λ (l : List Row). s.overloaded ≡ true → FirstOver capacity l s.row × (s.table ≡ table_of [])) same w.over
+      over : (r : Row) → s ≡ Err r → FirstOver capacity (sweep ts) r
+      over r e = subst (λ (l : List Row). FirstOver capacity l r) same (w.over r e)
 
-      fits : s.overloaded ≡ false → NoneOver capacity (sweep ts) × (s.table ≡ table_of (sweep ts)) × (s.row ≡ empty_row)
-      fits = subst (λ (l : List Row). s.overloaded ≡ false → NoneOver capacity l × (s.table ≡ table_of l) × (s.row ≡ empty_row)) same w.fits
+      fits : (t : Table) → s ≡ Ok t → NoneOver capacity (sweep ts) × (t ≡ table_of (sweep ts))
+      fits t e = subst (λ (l : List Row). NoneOver capacity l × (t ≡ table_of l)) same (w.fits t e)
 
-      go : (a : Bool) → s.overloaded ≡ a → (b : Bool) → (swept capacity ts).overloaded ≡ b → s ≡ swept capacity ts
-      go true p true q =
-          λ j. record {
-            overloaded = (p ∙ sym q) j;
-            row = first_alike capacity (sweep ts) (over p).0 (v.over q).0 j;
-            table = ((over p).1 ∙ sym (v.over q).1) j;
-          }
-      go true p false q = absurd (first_some capacity (sweep ts) (over p).0 (v.fits q).0)
-      go false p true q = absurd (first_some capacity (sweep ts) (v.over q).0 (fits p).0)
-      go false p false q =
-          λ j. record {
-            overloaded = (p ∙ sym q) j;
-            row = ((fits p).2 ∙ sym (v.fits q).2) j;
-            table = ((fits p).1 ∙ sym (v.fits q).1) j;
-          }
+      go : (a : Result Table Row) → s ≡ a → (c : Option Row) → conflict_in capacity (sweep ts) ≡ c → a ≡ swept_by c (sweep ts)
+      go (Err r) p (Some q) is = ap Err (first_alike capacity (sweep ts) (over r p) (conflict_row capacity (sweep ts) q is))
+      go (Err r) p None is = absurd (first_some capacity (sweep ts) (over r p) (conflict_none_over capacity (sweep ts) is))
+      go (Ok t) p (Some q) is = absurd (first_some capacity (sweep ts) (conflict_row capacity (sweep ts) q is) (fits t p).0)
+      go (Ok t) p None is = ap Ok (fits t p).1
 
-module _ (capacity : ℕ) (ts : Tasks) (can : Sweepable ts) (fits : (swept capacity (tasks_of ts)).overloaded ≡ false) where
-  held : Held 128 empty_row (swept capacity (tasks_of ts)).table.rows (swept capacity (tasks_of ts)).table.count (sweep (tasks_of ts))
+module _ (capacity : ℕ) (ts : Tasks) (can : Sweepable ts) (t : Table) (fits : swept capacity (tasks_of ts) ≡ Ok t) where
+  held : Held 128 empty_row t.rows t.count (sweep (tasks_of ts))
   held =
-      rw fits
+      rw (fits_is capacity (tasks_of ts) t fits).1
       (record { is = refl; counts = refl; fits = omega (arith, sweep_length (tasks_of ts), can.held.counts, can.held.fits) })
 
-  -- not overloaded: the table holds the sweep's rows
-  pub swept_rows : rows_of (swept capacity (tasks_of ts)).table ≡ sweep (tasks_of ts)
+  -- a table: it holds the sweep's rows
+  pub swept_rows : rows_of t ≡ sweep (tasks_of ts)
   swept_rows = held_list held
 
   right : Right (runs (tasks_of ts)) (usage_of (tasks_of ts)) (sweep (tasks_of ts))
   right = sweep_right (tasks_of ts) (omega (arith, can.held.counts, can.held.fits)) can.ends
 
   -- it is a table that the edits go on from
-  pub swept_arranged : Arranged (swept capacity (tasks_of ts)).table
+  pub swept_arranged : Arranged t
   swept_arranged = record { clean = held_self held; ordered = rw swept_rows right.ordered }
 
-  pub swept_right : Right (runs (tasks_of ts)) (usage_of (tasks_of ts)) (rows_of (swept capacity (tasks_of ts)).table)
+  pub swept_right : Right (runs (tasks_of ts)) (usage_of (tasks_of ts)) (rows_of t)
   swept_right = rw swept_rows right

@@ -1,13 +1,13 @@
 -- What the sweep is to be, in the document's words and not by how it is found: the rows are the maximal runs of instants with one
 -- unchanging, non-empty set of covering tasks; a row's height is the sum of their usages; its list is ordered by latest start, then id. If some
 -- height exceeds the capacity, the answer is overloaded with the earliest such row.
-use Rattle.std.specs.Prelude.{true, false, cond, ◌≡◌, List, [], ℕ, suc, ◌≤◌, ◌<◌}
+use Rattle.std.specs.Prelude.{true, cond, ◌≡◌, Result, Ok, Err, List, [], ℕ, suc, ◌≤◌, ◌<◌}
 use Rattle.time_table.specs.declared.Row.{Row}
-use Rattle.time_table.specs.Rows.{row_of, empty_row, table_of, tasks}
+use Rattle.time_table.specs.declared.Table.{Table}
+use Rattle.time_table.specs.Rows.{row_of, table_of, tasks}
 use Rattle.time_table.specs.Overload.{FirstOver, NoneOver}
 use Rattle.time_table.specs.Meaning.{total, occurs}
 use Rattle.sweep.specs.declared.Task.{Task}
-use Rattle.sweep.specs.declared.time_table_over_interval.Swept.{Swept}
 use Rattle.sweep.specs.Tasks.{latest_of, usage_of, runs}
 use Rattle.sweep.specs.Sorting.{In, Sorted}
 
@@ -46,9 +46,9 @@ pub record SweepOf (ts : List Task) (rows : List Row) : Type 0 where
   pub sorted : Sorted Ahead rows
   pub all : (t i : ℕ) → runs ts i t ≡ true → Found t rows
 
--- the answer: overloaded with the earliest row that is too high, and no rows; or the rows, none of which is too high, and no row
-pub record SweptOf (capacity : ℕ) (ts : List Task) (s : Swept) : Type 0 where
+-- the answer: the earliest row that is too high; or the table of the rows, none of which is too high
+pub record SweptOf (capacity : ℕ) (ts : List Task) (s : Result Table Row) : Type 0 where
   pub rows : List Row
   pub sweeps : SweepOf ts rows
-  pub over : s.overloaded ≡ true → FirstOver capacity rows s.row × (s.table ≡ table_of [])
-  pub fits : s.overloaded ≡ false → NoneOver capacity rows × (s.table ≡ table_of rows) × (s.row ≡ empty_row)
+  pub over : (r : Row) → s ≡ Err r → FirstOver capacity rows r
+  pub fits : (t : Table) → s ≡ Ok t → NoneOver capacity rows × (t ≡ table_of rows)

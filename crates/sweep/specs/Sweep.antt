@@ -1,13 +1,12 @@
 -- The sweep: the maximal runs of instants with one unchanging, non-empty set of covering tasks.
 -- The time line is cut where parts start and end, and between two cuts the covering tasks do not change.
-use Rattle.std.specs.Prelude.{cond, List, [], ◌∷◌, ℕ, zero, suc, ◌-◌, ltb, length}
+use Rattle.std.specs.Prelude.{cond, Option, Some, None, Result, Ok, Err, List, [], ◌∷◌, ℕ, zero, suc, ◌-◌, ltb, length}
 use Rattle.time_table.specs.declared.Row.{Row}
-use Rattle.time_table.specs.declared.Conflict.{Conflict}
+use Rattle.time_table.specs.declared.Table.{Table}
 use Rattle.time_table.specs.Rows.{row_of, table_of}
 use Rattle.time_table.specs.Meaning.{total}
 use Rattle.time_table.specs.Overload.{conflict_in}
 use Rattle.sweep.specs.declared.Task.{Task}
-use Rattle.sweep.specs.declared.time_table_over_interval.Swept.{Swept}
 use Rattle.sweep.specs.Tasks.{task_at, latest_of, usage_of, run_end, runs}
 use Rattle.sweep.specs.Sorting.{ordered}
 
@@ -48,8 +47,9 @@ unfoldable pub sweep : List Task → List Row
 sweep ts = rows_by ts (cuts ts)
 
 -- the answer: overloaded with the earliest row that is too high, if there is one, and else the table of the rows
-abbrev pub swept_by : Conflict → List Row → Swept
-swept_by c rows = record { overloaded = c.found; row = c.row; table = table_of (cond c.found [] rows) }
+abbrev pub swept_by : Option Row → List Row → Result Table Row
+swept_by (Some r) rows = Err r
+swept_by None rows = Ok (table_of rows)
 
-abbrev pub swept : ℕ → List Task → Swept
+abbrev pub swept : ℕ → List Task → Result Table Row
 swept capacity ts = swept_by (conflict_in capacity (sweep ts)) (sweep ts)

@@ -1,9 +1,10 @@
 // From jobs to tasks, and from tasks to the rows of a time-table.
 //
-// A port of Pumpkin's create_tasks and of its sweep over the starts and ends of mandatory parts; the
-// modules have the names of the files that they follow. Instants are ticks.
+// A port of Pumpkin's create_tasks and of its sweep over the starts and ends of mandatory parts; `util` and
+// `time_table_over_interval` have the names of the files that they follow. Instants are ticks.
 #![tactic(auto)]
 
+mod insertion;
 pub mod time_table_over_interval;
 pub mod util;
 
@@ -13,8 +14,8 @@ ghost use Rattle.sweep.specs.Tasks.{no_task, tasks_with, lasts, run_end, part_of
 use time_table::Part;
 
 // A task: the bounds of its start, how long it runs and what it draws. Its id is its place. One whose
-// mandatory part is empty is in no table.
-#[derive(Clone, Copy)]
+// mandatory part is empty is in no table. The default one has nothing in it, and no mandatory part.
+#[derive(Clone, Copy, Default)]
 pub struct Task {
     pub earliest: u32,
     pub latest: u32,
@@ -23,6 +24,9 @@ pub struct Task {
 }
 
 // Tasks or jobs, in `list` up to `count`. Unused places are 0.
+// Stays as it is: there is no heap here, so a list is an array with a count, and the definitions of
+// `planner` name both. That unused places are 0 stays a clause (`HeldTasks`): two functions ask it, and
+// the three that ask `Sweepable` ask more than is so of jobs, which are `Tasks` too.
 #[derive(Clone, Copy)]
 pub struct Tasks {
     pub list: [Task; Tasks::ROOM],
@@ -34,12 +38,7 @@ impl Task {
     pub fn empty() -> Task
         ensures { result ≡ no_task }
     {
-        Task {
-            earliest: 0,
-            latest: 0,
-            duration: 0,
-            usage: 0,
-        }
+        Task::default()
     }
 
     // How many instants a run has.
@@ -79,9 +78,8 @@ impl Tasks {
     pub fn empty() -> Tasks
         ensures { result ≡ tasks_with [] }
     {
-        let empty = Task::empty();
         Tasks {
-            list: [empty; Tasks::ROOM],
+            list: [Task::empty(); Tasks::ROOM],
             count: 0,
         }
     }

@@ -1,15 +1,12 @@
 -- Bytes that are served piece by piece lead to the state after all of them: each that is taken leaves the same to come.
 -- Assumes nothing.
-use mathlib.Core.Path.{◌≡◌, refl, sym, ap, ◌∙◌}
-use mathlib.Core.Bool.{Bool, true, false, cond}
-use mathlib.Core.List.{List, [], ◌∷◌}
-use Prim.Native.Nat.{ℕ, ◌+◌}
-use lib.Dec.{leb}
-use lib.ListN.{length, drop}
-use lib.Seq.{drop-drop}
+use Rattle.std.proofs.Common.{◌≡◌, refl, sym, ap, ◌∙◌, Bool, true, false, cond, List, [], ◌∷◌, ℕ, ◌+◌, ◌-◌, ◌<◌, ◌≤◌, leb, length, take, drop, arith, length-drop, take_all}
+use Rattle.std.proofs.Math.Seq.{drop-drop}
 use Rattle.command.specs.declared.lines.State.{State}
+use Rattle.command.specs.declared.lines.Served.{Served}
 use Rattle.command.specs.Text.{longest}
-use Rattle.command.specs.Lines.{Gathered, gather, gathered, served}
+use Rattle.command.specs.Lines.{Gathered, gather, gathered, Serves}
+use Rattle.command.proofs.ServedLines.{served_further}
 use Rattle.terminal.specs.Reads.{state_after}
 
 module _ (room : ℕ) (piece : List ℕ) where
@@ -28,5 +25,26 @@ module _ (room : ℕ) (piece : List ℕ) where
       go true more = more ∙ rw (tail, e) refl
       go false more = refl
 
-  pub served_leads : (s : State) (at : ℕ) → state_after (served room s at (drop at piece)).state (drop (served room s at (drop at piece)).next piece) ≡ state_after s (drop at piece)
-  served_leads s at = gathered_leads (drop at piece) (record { state = s; next = at; text = [] }) refl
+  -- no more bytes are taken than there are
+  gathered_within : (bytes : List ℕ) (g : Gathered) → (gathered room g bytes).next ≤ g.next + length bytes
+  unfolding gathered
+  gathered_within [] g = omega arith
+  gathered_within (b ∷ bytes) g = go (leb (length g.text + longest) room) (gathered_within bytes (gather g b))
+    where
+      go : (free : Bool) → (gathered room (gather g b) bytes).next ≤ g.next + 1 + length bytes → (cond free (gathered room (gather g b) bytes) g).next ≤ g.next + length (b ∷ bytes)
+      go true h = omega arith
+      go false h = omega arith
+
+-- what is served of some bytes: one at least, no more than there are, and those that are left lead where all lead
+module _ {s : State} {bytes out after : List ℕ} {r : Served} (v : Serves s bytes 0 r out after) where
+  pub serves_some : longest ≤ length out → 0 < length bytes → 0 < r.next
+  serves_some enough some = omega (arith, v.next, served_further (length out) s 0 bytes enough some)
+
+  pub serves_within : r.next ≤ length bytes
+  serves_within = omega (arith, v.next, gathered_within (length out) bytes bytes (record { state = s; next = 0; text = [] }))
+
+  pub serves_leads : state_after r.state (take (length bytes - r.next) (drop r.next bytes)) ≡ state_after s bytes
+  serves_leads =
+      ap (state_after r.state) (take_all (length bytes - r.next) (drop r.next bytes) (omega (arith, length-drop r.next bytes)))
+      ∙ (λ i. state_after (v.state i) (drop (v.next i) bytes))
+      ∙ gathered_leads (length out) bytes bytes (record { state = s; next = 0; text = [] }) refl

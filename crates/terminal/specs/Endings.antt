@@ -1,5 +1,5 @@
--- The exit status of a program that ends so.
-use Rattle.std.specs.Prelude.{◌≡◌, ℤ, pos}
+-- The exit status of a program that ends so, and what it says of that.
+use Rattle.std.specs.Prelude.{◌≡◌, ℕ, ℤ, pos, List, codes}
 use Rattle.terminal.specs.declared.Ending.{Ending}
 
 -- 0 if all input was answered, 1 if some of it was not read, 2 if an answer could not be written
@@ -12,3 +12,9 @@ status_of Ending.Unwritten = pos 2
 pub record Status (z : ℤ) : Type 0 where
   pub ending : Ending
   pub is : z ≡ status_of ending
+
+-- the sentence for an ending
+abbrev pub sentence_of : Ending → List ℕ
+sentence_of Ending.Over = codes "all input was answered"
+sentence_of Ending.Unread = codes "standard input could not be read"
+sentence_of Ending.Unwritten = codes "an answer could not be written"

@@ -7,10 +7,10 @@ use mathlib.Core.Logic.{◌⊎◌, inl, inr, ⊎_elim}
 use borrow.Author.Tests.{le-leb, lt-leb}
 use lib.Dec.{leb}
 use Rattle.time_table.specs.declared.Part.{Part}
-use Rattle.time_table.specs.Adjustments.{stretch, apart, left_of, removed_parts, added_parts}
+use Rattle.time_table.specs.Adjustments.{stretch, apart, left_of, removed_parts, added_parts, parts_there, adjustments}
 use Rattle.time_table.specs.AdjustmentTable.{Separate, Overlap, LeftParts, nothing, whole, both_ends, right_end, left_end, inside}
 use Rattle.time_table.proofs.Sums.{lt_or_le}
-use Rattle.time_table.proofs.PartDifference.{stretch_none, stretch_some, left_apart, left_empty, left_ends}
+use Rattle.time_table.proofs.PartDifference.{stretch_none, stretch_some, left_apart, left_empty, left_ends, ends_there}
 
 module _ (p q : Part) where
   is_apart : Separate p q → apart p q ≡ true
@@ -70,8 +70,14 @@ module _ (p q : Part) where
       (λ h. held (nothing h))
       (lt_or_le p.from p.until)
 
--- the removed and the added parts, and no other lists, are the table's
+-- the parts that an adjustment has in its places, in their order, are the removed and the added parts; these, and no other lists, are the table's
 module _ (old new : Part) where
+  pub removed_there : parts_there (adjustments old new).removed ≡ removed_parts old new
+  removed_there = ends_there old new
+
+  pub added_there : parts_there (adjustments old new).added ≡ added_parts old new
+  added_there = ends_there new old
+
   pub removed_are : LeftParts old new (removed_parts old new)
   removed_are = left_table old new
 

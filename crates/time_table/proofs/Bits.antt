@@ -8,6 +8,8 @@ use native.Mathlib.Nat.{not-suc-le-zero}
 use native.Mathlib.Omega.{arith}
 use borrow.Author.Tests.{le-leb, lt-leb}
 use lib.Dec.{leb}
+use mathlib.Core.List.{[], ◌∷◌}
+use Rattle.std.specs.Prelude.{None, Some, option_to_list}
 use Rattle.time_table.specs.Meaning.{bit}
 use Rattle.time_table.proofs.Sums.{lt_or_le}
 
@@ -38,6 +40,10 @@ bit_false false e = refl
 pub cond_same : {A : Type 0} (b : Bool) (x : A) → cond b x x ≡ x
 cond_same true x = refl
 cond_same false x = refl
+
+pub some_if : {A : Type 0} (b : Bool) (x : A) → option_to_list (cond b (Some x) None) ≡ cond b (x ∷ []) []
+some_if true x = refl
+some_if false x = refl
 
 -- two tests of numbers that hold together
 pub same_test : (a b c d : ℕ) → (a ≤ b → c ≤ d) → (b < a → d < c) → leb a b ≡ leb c d

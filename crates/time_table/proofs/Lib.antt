@@ -30,5 +30,6 @@ pub mod Demanded
 pub mod Overloaded
 pub mod Front
 pub mod TableUpdate
+pub mod StepsInTurn
 pub mod Meets
 pub mod Examples

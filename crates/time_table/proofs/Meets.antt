@@ -21,7 +21,7 @@ use Rattle.time_table.proofs.AtRow.{ordered_at}
 use Rattle.time_table.proofs.EditRight.{runs_in, removal_right}
 use Rattle.time_table.proofs.Editable.{Takes, Steps}
 use Rattle.time_table.proofs.Demanded.{demanded}
-use Rattle.time_table.proofs.TableUpdate.{update_removes}
+use Rattle.time_table.proofs.TableUpdate.{update_edits}
 
 module _ (runs small : ℕ → ℕ → Bool) (usage : ℕ → ℕ) (rows : List Row) (right : Right runs usage rows) (within : Within runs usage)
     (p : Part) (of : PartOf usage p) (with : With p small runs) where
@@ -65,8 +65,8 @@ turn_after usage last p later (q ∷ before) runs rows s within right =
 module _ (old new : Part) (t : Table) (u : Updatable old new t) (before later : List Part) (p : Part) (is : removed_parts old new ≡ before ++ p ∷ later) where
   turn : Turn p (rows_then before t)
   turn =
-      let e = update_removes old new t u in
-      turn_after e.usage e.last p later before e.runs (rows_of t) (rw is at e.steps) e.within e.right
+      let e = update_edits old new t u in
+      turn_after e.usage e.mid p later before e.runs (rows_of t) (rw is at e.removes) e.within e.right
 
   -- each part that an update removes meets a row, as the rows are when its turn comes
   pub update_meets : Met p (rows_then before t)

@@ -9,6 +9,7 @@ use native.Mathlib.Nat.{not-suc-le-zero, le_of_suc-le-suc}
 use native.Mathlib.Omega.{arith}
 use borrow.Author.Tests.{ltb-true, ltb-false}
 use lib.Dec.{ltb}
+use Rattle.std.specs.Prelude.{None, Some}
 use lib.ListN.{length}
 use Rattle.time_table.specs.declared.Row.{Row}
 use Rattle.time_table.specs.Rows.{row_at}
@@ -20,39 +21,37 @@ use Rattle.time_table.proofs.Sums.{lt_or_le}
 use Rattle.time_table.proofs.AtRow.{ordered_at, ordered_apart, summed_at, row_or_none}
 
 module _ (capacity : ℕ) where
-  pub conflict_row : (rows : List Row) → (conflict_in capacity rows).found ≡ true → FirstOver capacity rows (conflict_in capacity rows).row
+  pub conflict_row : (rows : List Row) (found : Row) → conflict_in capacity rows ≡ Some found → FirstOver capacity rows found
   unfolding conflict_in
-  conflict_row [] e = let z : ◌≡◌ {A = ℕ} 0 1 = cc in absurd (omega arith)
-  conflict_row (r ∷ rs) e = go (ltb capacity r.height) refl e (conflict_row rs)
+  conflict_row [] found e = absurd (cc)
+  conflict_row (r ∷ rs) found e = go (ltb capacity r.height) refl e (conflict_row rs found)
     where
-      go : (b : Bool) → ltb capacity r.height ≡ b → (cond b (record { found = true; row = r }) (conflict_in capacity rs)).found ≡ true
-          → ((conflict_in capacity rs).found ≡ true → FirstOver capacity rs (conflict_in capacity rs).row)
-          → FirstOver capacity (r ∷ rs) (cond b (record { found = true; row = r }) (conflict_in capacity rs)).row
+      below : (at k : ℕ) → r.height ≤ capacity → ((j : ℕ) → j < at → (row_at rs j).height ≤ capacity) → k < suc at → (row_at (r ∷ rs) k).height ≤ capacity
+      below at zero low first lt = low
+      below at (suc k) low first lt = first k (le_of_suc-le-suc lt)
+
+      go : (b : Bool) → ltb capacity r.height ≡ b → cond b (Some r) (conflict_in capacity rs) ≡ Some found → (conflict_in capacity rs ≡ Some found → FirstOver capacity rs found)
+          → FirstOver capacity (r ∷ rs) found
       go true h e rec =
-          record { at = 0; within = omega arith; is = refl; over = ltb-true capacity r.height h; first = λ k lt. absurd (not-suc-le-zero lt) }
-      go false h e rec = later (ltb-false capacity r.height h) (rec e)
-        where
-          below : (at k : ℕ) → r.height ≤ capacity → ((j : ℕ) → j < at → (row_at rs j).height ≤ capacity) → k < suc at → (row_at (r ∷ rs) k).height ≤ capacity
-          below at zero low first lt = low
-          below at (suc k) low first lt = first k (le_of_suc-le-suc lt)
+          let same : r ≡ found = cc in
+          rw (← same) (record { at = 0; within = omega arith; is = refl; over = ltb-true capacity r.height h; first = λ k lt. absurd (not-suc-le-zero lt) })
+      go false h e rec =
+          let w = rec e in
+          record { at = suc w.at; within = omega (arith, w.within); is = w.is; over = w.over; first = λ k lt. below w.at k (ltb-false capacity r.height h) w.first lt }
 
-          later : r.height ≤ capacity → FirstOver capacity rs (conflict_in capacity rs).row → FirstOver capacity (r ∷ rs) (conflict_in capacity rs).row
-          later low w =
-              record { at = suc w.at; within = omega (arith, w.within); is = w.is; over = w.over; first = λ k lt. below w.at k low w.first lt }
-
-  pub conflict_none_over : (rows : List Row) → (conflict_in capacity rows).found ≡ false → NoneOver capacity rows
+  pub conflict_none_over : (rows : List Row) → conflict_in capacity rows ≡ None → NoneOver capacity rows
   unfolding conflict_in
   conflict_none_over [] e = λ k lt. absurd (not-suc-le-zero lt)
   conflict_none_over (r ∷ rs) e = go (ltb capacity r.height) refl e (conflict_none_over rs)
     where
-      go : (b : Bool) → ltb capacity r.height ≡ b → (cond b (record { found = true; row = r }) (conflict_in capacity rs)).found ≡ false
-          → ((conflict_in capacity rs).found ≡ false → NoneOver capacity rs) → NoneOver capacity (r ∷ rs)
-      go true h e rec = let z : ◌≡◌ {A = ℕ} 0 1 = cc in absurd (omega arith)
-      go false h e rec = each (rec e)
-        where
-          each : NoneOver capacity rs → (k : ℕ) → k < suc (length rs) → (row_at (r ∷ rs) k).height ≤ capacity
-          each low zero lt = ltb-false capacity r.height h
-          each low (suc k) lt = low k (le_of_suc-le-suc lt)
+      each : r.height ≤ capacity → NoneOver capacity rs → (k : ℕ) → k < suc (length rs) → (row_at (r ∷ rs) k).height ≤ capacity
+      each first low zero lt = first
+      each first low (suc k) lt = low k (le_of_suc-le-suc lt)
+
+      go : (b : Bool) → ltb capacity r.height ≡ b → cond b (Some r) (conflict_in capacity rs) ≡ None → (conflict_in capacity rs ≡ None → NoneOver capacity rs)
+          → NoneOver capacity (r ∷ rs)
+      go true h e rec = absurd (cc)
+      go false h e rec = each (ltb-false capacity r.height h) (rec e)
 
   module _ (hi lo : ℕ) (rows : List Row) (o : Ordered hi lo rows) where
     -- what the height is at an instant: that of a row which has it, or nothing
@@ -63,12 +62,12 @@ module _ (capacity : ℕ) where
         (λ none. rw (none (λ r. r.height)) (omega arith))
         (row_or_none t rows)
 
-    pub conflict_fits : (conflict_in capacity rows).found ≡ false → (t : ℕ) → height_at t rows ≤ capacity
+    pub conflict_fits : conflict_in capacity rows ≡ None → (t : ℕ) → height_at t rows ≤ capacity
     conflict_fits e t = by_row t (λ k w. conflict_none_over rows e k w.one_of)
 
-    pub conflict_first : (conflict_in capacity rows).found ≡ true → FirstInstantOver capacity lo rows (conflict_in capacity rows).row
-    conflict_first e =
-        let w = conflict_row rows e in
+    pub conflict_first : (found : Row) → conflict_in capacity rows ≡ Some found → FirstInstantOver capacity lo rows found
+    conflict_first found e =
+        let w = conflict_row rows found e in
         let lies = ordered_at hi lo rows w.at w.within o in
         let high = rw w.is at w.over in
         rw w.is

@@ -1,17 +1,19 @@
 -- What is left of a part where another is not: two stretches at most, and every instant of the part is in one of them or in the other part,
 -- and in no two.
 -- Assumes nothing.
-use mathlib.Core.Path.{◌≡◌}
-use mathlib.Core.Bool.{true, false, ◌&&◌, and-false}
-use mathlib.Core.List.{List, [], ◌∷◌, ◌++◌, append-nil}
+use mathlib.Core.Path.{◌≡◌, refl, ◌∙◌}
+use mathlib.Core.Bool.{Bool, true, false, cond, ◌&&◌, and-false}
+use mathlib.Core.List.{[], ◌∷◌, ◌++◌, append-nil}
 use Prim.Native.Nat.{ℕ, ◌≤◌, ◌<◌, ◌+◌}
 use borrow.Author.Tests.{lt-ltb, le-ltb, le-leb, lt-leb}
 use Rattle.time_table.specs.declared.Part.{Part}
-use Rattle.time_table.specs.declared.mandatory_part_adjustments.Parts.{Parts}
-use Rattle.time_table.specs.Adjustments.{stretch, apart, left_of, parts_of, HeldParts}
+use lib.Dec.{ltb, leb}
+use Rattle.std.specs.Prelude.{None, option_to_list}
+use Rattle.time_table.specs.Adjustments.{stretch, apart, left_of, cut_part, ends_of, parts_there}
 use mathlib.Core.Logic.{⊎_elim}
 use native.Mathlib.Omega.{arith}
 use Rattle.time_table.specs.Meaning.{bit, has}
+use Rattle.time_table.proofs.Bits.{some_if}
 use Rattle.time_table.proofs.Sums.{has_in, has_below, has_above, has_none, lt_or_le, by_place}
 
 module _ (p : Part) (x y : ℕ) where
@@ -22,6 +24,22 @@ module _ (p : Part) (x y : ℕ) where
   pub stretch_some : x < y → stretch p x y ≡ record { from = x; until = y; id = p.id; usage = p.usage } ∷ []
   unfolding stretch
   stretch_some h = simp (lt-ltb x y h)
+
+-- the parts in the places of an adjustment are those of the list
+cut_there : (p : Part) (x y : ℕ) → option_to_list (cut_part p x y) ≡ stretch p x y
+unfolding stretch
+cut_there p x y = some_if (ltb x y) _
+
+pub ends_there : (p q : Part) → parts_there (ends_of p q) ≡ left_of p q
+unfolding left_of
+ends_there p q = go (apart p q) (leb p.until p.from)
+  where
+    go : (a b : Bool)
+        → parts_there (cond a (cut_part p p.from p.until ∷ None ∷ []) (cond b (None ∷ None ∷ []) (cut_part p q.until p.until ∷ cut_part p p.from q.from ∷ [])))
+        ≡ cond a (stretch p p.from p.until) (cond b [] (stretch p q.until p.until ++ stretch p p.from q.from))
+    go true b = append-nil _ ∙ cut_there p p.from p.until
+    go false true = refl
+    go false false = rw (append-nil, cut_there, cut_there) refl
 
 module _ (p q : Part) where
   pub left_apart : apart p q ≡ true → left_of p q ≡ stretch p p.from p.until
@@ -35,10 +53,6 @@ module _ (p q : Part) where
   pub left_ends : apart p q ≡ false → p.from < p.until → left_of p q ≡ stretch p q.until p.until ++ stretch p p.from q.from
   unfolding left_of
   left_ends e h = rw (e, lt-leb p.until p.from h)
-
--- parts that are held are the parts of their list
-pub parts_held : {r : Parts} {l : List Part} → HeldParts r l → r ≡ parts_of l
-parts_held h = λ i. record { parts = h.is i; count = h.counts i }
 
 pub record Left (p q : Part) : Type 0 where
   pub a : ℕ

@@ -1,11 +1,9 @@
 -- Old and new part give removed and added parts. Both empty: nothing. One empty: the other whole. Disjoint or merely touching: the
 -- old removed whole, the new added whole. Overlapping: first the difference at the right end, then the one at the left end, each
 -- added or removed; equal ends give nothing.
-use Rattle.std.specs.Prelude.{Bool, cond, ◌||◌, List, [], ◌∷◌, ◌++◌, ℕ, ◌+◌, ◌≤◌, ltb, leb, length, take}
+use Rattle.std.specs.Prelude.{Bool, cond, ◌||◌, List, [], ◌∷◌, ◌++◌, ℕ, ltb, leb, Option, None, Some, option_to_list, flat_map}
 use Rattle.time_table.specs.declared.Part.{Part}
-use Rattle.time_table.specs.declared.mandatory_part_adjustments.Parts.{Parts}
 use Rattle.time_table.specs.declared.mandatory_part_adjustments.MandatoryPartAdjustments.{MandatoryPartAdjustments}
-use Rattle.time_table.specs.Held.{Held, pad}
 
 -- a part cut to the instants from x up to but without y: nothing where there are none
 unfoldable pub stretch : Part → ℕ → ℕ → List Part
@@ -28,22 +26,19 @@ removed_parts old new = left_of old new
 abbrev pub added_parts : Part → Part → List Part
 added_parts old new = left_of new old
 
--- two parts at most, filled up with the empty part
-abbrev pub empty_part : Part
-empty_part = record { from = 0; until = 0; id = 0; usage = 0 }
+-- such a part, if it has instants
+abbrev pub cut_part : Part → ℕ → ℕ → Option Part
+cut_part p x y = cond (ltb x y) (Some (record { from = x; until = y; id = p.id; usage = p.usage })) None
 
-abbrev pub parts_of : List Part → Parts
-parts_of l = record { parts = pad 2 empty_part l; count = length l }
+-- what of p is left where q is not, in two places: its right end, or all of it, and then its left end, where there are such
+abbrev pub ends_of : Part → Part → List (Option Part)
+ends_of p q =
+    cond (apart p q) (cut_part p p.from p.until ∷ None ∷ [])
+    (cond (leb p.until p.from) (None ∷ None ∷ []) (cut_part p q.until p.until ∷ cut_part p p.from q.from ∷ []))
 
-abbrev pub HeldParts : Parts → List Part → Type 0
-HeldParts p l = Held 2 empty_part p.parts p.count l
-
-abbrev pub parts_in : Parts → List Part
-parts_in p = take p.count p.parts
-
--- `r` has the parts of `p`, and then `xs`, which is one part at most
-abbrev pub AddsPart : Parts → Parts → List Part → Type 0
-AddsPart p r xs = (r.count ≤ p.count + 1) × ((l : List Part) → HeldParts p l → HeldParts r (l ++ xs))
+-- the parts that stand in places, in their order
+abbrev pub parts_there : List (Option Part) → List Part
+parts_there places = flat_map option_to_list places
 
 abbrev pub adjustments : Part → Part → MandatoryPartAdjustments
-adjustments old new = record { removed = parts_of (removed_parts old new); added = parts_of (added_parts old new) }
+adjustments old new = record { removed = ends_of old new; added = ends_of new old }

@@ -15,3 +15,4 @@ pub mod Panics
 pub mod Sentence
 pub mod PartByPart
 pub mod Demand
+pub mod Rewriting

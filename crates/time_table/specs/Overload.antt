@@ -1,13 +1,12 @@
 -- The first row that is higher than the capacity, if there is one; and the greatest height.
-use Rattle.std.specs.Prelude.{true, false, cond, ◌≡◌, List, [], ◌∷◌, ℕ, ◌≤◌, ◌<◌, max, ltb, length}
+use Rattle.std.specs.Prelude.{cond, ◌≡◌, List, [], ◌∷◌, ℕ, ◌≤◌, ◌<◌, max, ltb, length, Option, None, Some}
 use Rattle.time_table.specs.declared.Row.{Row}
-use Rattle.time_table.specs.declared.Conflict.{Conflict}
-use Rattle.time_table.specs.Rows.{empty_row, row_at}
+use Rattle.time_table.specs.Rows.{row_at}
 use Rattle.time_table.specs.Meaning.{height_at}
 
-unfoldable pub conflict_in : ℕ → List Row → Conflict
-conflict_in capacity [] = record { found = false; row = empty_row }
-conflict_in capacity (r ∷ rs) = cond (ltb capacity r.height) (record { found = true; row = r }) (conflict_in capacity rs)
+unfoldable pub conflict_in : ℕ → List Row → Option Row
+conflict_in capacity [] = None
+conflict_in capacity (r ∷ rs) = cond (ltb capacity r.height) (Some r) (conflict_in capacity rs)
 
 -- the greatest height
 unfoldable pub highest : List Row → ℕ

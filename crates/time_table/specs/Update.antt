@@ -1,10 +1,10 @@
 -- An update applies all removed parts, then all added ones, each list in its order. If after some one part the table would have over 128 rows,
--- it is over, and the table stays as it was.
-use Rattle.std.specs.Prelude.{Bool, false, cond, ◌||◌, ◌≡◌, List, [], ◌∷◌, ℕ, ◌≤◌, ◌<◌, ltb, eqb, length}
+-- it is over, and there is no new table.
+use Rattle.std.specs.Prelude.{Bool, false, cond, ◌||◌, ◌≡◌, List, [], ◌∷◌, ℕ, ◌≤◌, ◌<◌, ltb, eqb, length, Result}
 use Rattle.time_table.specs.declared.Row.{Row}
 use Rattle.time_table.specs.declared.Part.{Part}
 use Rattle.time_table.specs.declared.Table.{Table}
-use Rattle.time_table.specs.declared.Edited.{Edited}
+use Rattle.time_table.specs.declared.TooManyRows.{TooManyRows}
 use Rattle.time_table.specs.Rows.{room_for_ids, room_for_rows, rows_of, Clean}
 use Rattle.time_table.specs.Order.{ticks}
 use Rattle.time_table.specs.Table.{verdict}
@@ -31,8 +31,8 @@ abbrev pub update_over : Part → Part → List Row → Bool
 update_over old new rows =
     over_after removal (removed_parts old new) rows || over_after insertion (added_parts old new) (after removal (removed_parts old new) rows)
 
-unfoldable pub updated : Part → Part → Table → Edited
-updated old new t = verdict (update_over old new (rows_of t)) t (updated_rows old new (rows_of t))
+unfoldable pub updated : Part → Part → Table → Result Table TooManyRows
+updated old new t = verdict (update_over old new (rows_of t)) (updated_rows old new (rows_of t))
 
 -- the same tasks run, but for the task id, which runs where b says
 abbrev pub moved : ℕ → (ℕ → Bool) → Runs → Runs

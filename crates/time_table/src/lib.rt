@@ -2,8 +2,8 @@
 // their draws, and how a part of a task is put into the rows and taken out of them.
 //
 // A port of Pumpkin's over-interval time-table; the modules have the names of the files that they
-// follow, but for `part_by_part` and `pieces`. Instants are ticks, so that no number can stand for
-// "none" (docs/DECISIONS.md).
+// follow, but for `part_by_part`, `pieces` and `rewriting`. Instants are ticks, so that no number can
+// stand for "none" (docs/DECISIONS.md).
 #![tactic(auto)]
 
 pub mod checks;
@@ -11,6 +11,7 @@ pub mod mandatory_part_adjustments;
 mod part_by_part;
 mod pieces;
 pub mod removal;
+mod rewriting;
 pub mod time_table_over_interval_incremental;
 pub mod time_table_util;
 
@@ -28,6 +29,8 @@ pub struct Part {
 
 // A row (the Rust's ResourceProfile): the instants from `start` to `end`, both in it, the tasks that
 // must run there, in `ids` up to `count`, and the sum of their usages. Unused places are 0.
+// Stays as it is: a list in an array with a count is the form that docs/SCOPE.md names, in fixed memory.
+// That `ids` is such a list (`Listed`) is asked where it is used: whoever builds a row is asked nothing.
 #[derive(Clone, Copy)]
 pub struct Row {
     pub start: u32,
@@ -38,26 +41,16 @@ pub struct Row {
 }
 
 // The rows of a time-table, in `rows` up to `count`. From there on they are the empty row.
+// Stays as it is: 128 rows and a count are the form that docs/SCOPE.md names, in fixed memory.
 #[derive(Clone, Copy)]
 pub struct Table {
     pub rows: [Row; Table::ROWS],
     pub count: usize,
 }
 
-// A row that is too high, if there is one; else the empty row.
-#[derive(Clone, Copy)]
-pub struct Conflict {
-    pub found: bool,
-    pub row: Row,
-}
-
-// A table after an update; or, where some one part would leave over 128 rows, the table as it was, and
-// `over`.
-#[derive(Clone, Copy)]
-pub struct Edited {
-    pub table: Table,
-    pub over: bool,
-}
+// Some one part of an update would leave over 128 rows. The caller's table is as it was.
+#[derive(Clone, Copy, Debug, PartialEq, Eq)]
+pub struct TooManyRows;
 
 impl Row {
     // How many ids a row has room for.

@@ -1,112 +1,90 @@
 // One step of an update, row by row: what a part that is taken out or put in makes of a row. It has the
 // bodies of two loops of the Rust over the overlapping rows, that of insertion.rs
 // (conflicting_after_insertion_of_overlapping_mandatory) and that of removal.rs
-// (reduce_profiles_overlapping_with_added_mandatory_part). The loop is `update_time_table`'s.
-ghost use Rattle.std.specs.Prelude.{◌≡◌, ◌+◌, ◌<◌, ◌^◌};
-ghost use Rattle.time_table.specs.Pieces.{Cuts};
-ghost use Rattle.time_table.specs.Insertion.{alone, started_at, past_row};
-ghost use Rattle.time_table.specs.PartByPart.{part_at, untouched, covered_in, NextPiece, made_last, Changeable};
+// (reduce_profiles_overlapping_with_added_mandatory_part). The loop is `Rewriting::walk`.
+ghost use Rattle.std.specs.Prelude.{◌≡◌, ◌+◌, ◌<◌, ◌^◌, option_to_list};
+ghost use Rattle.time_table.specs.PartByPart.{part_of, gap_of, covered_of, behind, made_last, untouched, Changeable};
 
-use crate::pieces::Piece;
 use crate::time_table_util::has_overlap_with_interval;
-use crate::{Part, Row, checks, pieces, removal};
+use crate::{Part, Row, checks, removal};
 
-// A part, and whether it is taken out of the table or put into it.
+// A part to take out of the rows, or what is left of a part to put into them.
 #[derive(Clone, Copy)]
-pub struct Step {
-    pub part: Part,
-    pub taking: bool,
+pub enum Step {
+    Remove(Part),
+    Add(Part),
 }
 
-// Whether a row stays as it is and nothing is laid before it. `from` is the instant up to which the
-// step's part is done; the row does not end before the part.
-pub(crate) fn is_untouched(step: Step, from: u32, profile: Row) -> bool
-    ensures { result ≡ untouched step from profile }
-{
-    let part = step.part;
-    if has_overlap_with_interval(part.from, part.until, profile.start, profile.end) {
-        return false;
-    }
-    if step.taking {
-        return true;
-    }
-    part.until <= from
-}
-
-// The part of a step that has come to the instant `from`: what is put in starts there.
-pub(crate) fn part_at(step: Step, from: u32) -> Part
-    ensures { result ≡ part_at step from }
-{
-    let part = step.part;
-    if step.taking {
-        return part;
-    }
-    Part {
-        from,
-        until: part.until,
-        id: part.id,
-        usage: part.usage,
-    }
-}
-
-// The covered piece of a row, without the task or with it.
-pub(crate) fn covered_piece(taking: bool, part: Part, profile: Row) -> Piece
-    requires { Changeable taking part profile }
-    ensures { Cuts result 3 (covered_in taking part profile) }
-{
-    if taking {
-        return removal::overlap_updated_profile(part, profile);
-    }
-    checks::overlap_updated_profile(part, profile)
-}
-
-// Of the four pieces that a part makes of a row (0 the gap before it, 1 left, 2 covered, 3 right), the
-// first from `number` on that is there; none if there is none. `lone` is a row of the part's task
-// alone.
-pub(crate) fn next_piece(taking: bool, part: Part, lone: Row, profile: Row, number: usize) -> Piece
-    requires { Changeable taking part profile × (number < 4) × (lone ≡ alone part) }
-    ensures { NextPiece taking part profile number result }
-{
-    if number == 0 {
-        if !taking {
-            let gap = checks::new_profile_before_profile(part, lone, profile);
-            if gap.some {
-                return gap;
-            }
+impl Step {
+    // The step's part.
+    pub(crate) fn part(self) -> Part
+        ensures { result ≡ part_of self }
+    {
+        match self {
+            Step::Remove(part) => part,
+            Step::Add(part) => part,
         }
     }
-    if number <= 1 {
-        let left = checks::split_profile_added_part_starts_after_profile_start(part, profile);
-        if left.some {
-            return left;
+
+    // Whether a row, which does not end before the part, stays as it is with all that follow.
+    pub(crate) fn is_untouched(self, profile: Row) -> bool
+        ensures { result ≡ untouched self profile }
+    {
+        match self {
+            Step::Remove(part) => !has_overlap_with_interval(
+                part.from,
+                part.until,
+                profile.start,
+                profile.end,
+            ),
+            Step::Add(part) => part.until <= part.from,
         }
     }
-    if number <= 2 {
-        let covered = covered_piece(taking, part, profile);
-        if covered.some {
-            return covered;
+
+    // What of a part that is put in lies before a row.
+    pub(crate) fn gap(self, profile: Row) -> Option<Row>
+        ensures { option_to_list result ≡ gap_of self profile }
+    {
+        match self {
+            Step::Remove(_) => None,
+            Step::Add(part) => checks::new_profile_before_profile(part, profile),
         }
     }
-    checks::split_profile_added_part_ends_before_profile_end(part, profile)
-}
 
-// What a step that has come to the instant `from` lays behind the last row (the Rust's
-// new_part_after_last_profile). `lone` is a row of its task alone.
-pub(crate) fn last_profile(step: Step, lone: Row, from: u32) -> Piece
-    requires { lone ≡ alone step.part }
-    ensures { Cuts result 4 (made_last step from) }
-{
-    if step.taking {
-        return Piece::none(lone, 4);
+    // The covered piece of a row, without the task or with it.
+    pub(crate) fn covered(self, profile: Row) -> Option<Row>
+        requires { Changeable self profile }
+        ensures { option_to_list result ≡ covered_of self profile }
+    {
+        match self {
+            Step::Remove(part) => removal::overlap_updated_profile(part, profile),
+            Step::Add(part) => checks::overlap_updated_profile(part, profile),
+        }
     }
-    let part = step.part;
-    Piece::cut(lone, from, part.until, 4)
-}
 
-// The instant to which a part has come behind a row.
-pub(crate) fn instant_behind(part: Part, from: u32, profile: Row) -> u32
-    requires { profile.end + 1 < 2 ^ 32 }
-    ensures { result ≡ past_row (started_at part from) profile }
-{
-    pieces::greatest(from, pieces::least(part.until, profile.end + 1))
+    // The step behind a row: of a part that is put in what is left.
+    // Stays as it is: `Row` does not promise that its end is no last number. Its type would then ask more of
+    // those who build rows in other crates.
+    pub(crate) fn behind(self, profile: Row) -> Step
+        requires { profile.end + 1 < 2 ^ 32 }
+        ensures { result ≡ behind self profile }
+    {
+        match self {
+            Step::Remove(part) => Step::Remove(part),
+            Step::Add(part) => Step::Add(Part {
+                from: part.from.max(part.until.min(profile.end + 1)),
+                ..part
+            }),
+        }
+    }
+
+    // What a step lays behind the last row (the Rust's new_part_after_last_profile).
+    pub(crate) fn last_profile(self) -> Option<Row>
+        ensures { option_to_list result ≡ made_last self }
+    {
+        match self {
+            Step::Remove(_) => None,
+            Step::Add(part) => checks::new_profile(part).cut(part.from, part.until),
+        }
+    }
 }

@@ -1,15 +1,17 @@
+-- The invariant of `pass_planner_run`: what the run writes is what is written so far, and then the answers to the rest of the script.
 use mathlib.Core.Path.{◌≡◌}
-use Prim.Native.Nat.{◌-◌, ◌≤◌}
-use lib.ListN.{length, drop}
-use Rattle.planner.specs.Sound.{Sound}
-use Rattle.script.specs.Pages.{page_of, puts}
+use lib.ListN.{length}
+use Rattle.script.specs.Pages.{puts}
+use Rattle.script.specs.Written.{page}
 use Rattle.script.specs.Runs.{answers_of, run}
 use Rattle.script.proofs.pass_planner_run.Given as goal
 
-abbrev pub invariant-loop-at : goal.invariant-loop-at
-invariant-loop-at l =
-    (l.at ≤ length l.script) × Sound l.state.plan
-    × (puts (page_of l.initial.answers 0) (run l.script) ≡ puts (page_of l.answers l.written) (answers_of l.state.plan l.jobs 0 (drop l.at l.script)))
+abbrev pub invariant-loop-rest : goal.invariant-loop-rest
+invariant-loop-rest l =
+    record {
+      slice : l.out.out.ghost_name ≡ l.initial.out.out.ghost_name;
+      answered : puts (page l.initial.out) (run l.script) ≡ puts (page l.out) (answers_of l.state.plan l.jobs 0 l.rest);
+    }
 
-abbrev pub decreases-loop-at : goal.decreases-loop-at
-decreases-loop-at l = length l.script - l.at
+abbrev pub decreases-loop-rest : goal.decreases-loop-rest
+decreases-loop-rest l = length l.rest

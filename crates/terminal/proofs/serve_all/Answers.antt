@@ -1,35 +1,30 @@
 -- `serve_all` meets its contract: each turn takes a byte at least, and what is left leads to the state after all bytes.
 -- Assumes nothing.
-use mathlib.Core.Path.{◌≡◌, refl, sym, ap, ◌∙◌}
-use Prim.Native.Nat.{◌-◌}
-use lib.ListN.{length, drop, drop_of_length-le}
-use lib.Seq.{length-take-le}
-use Rattle.command.specs.Lines.{ReadyState}
-use Rattle.command.proofs.ServedLines.{served_further}
+use Rattle.std.proofs.Common.{◌≡◌, ℕ, List, [], ◌∷◌, ◌<◌, refl, ◌∙◌, rules, arith, length, length-drop, length-take}
+use Rattle.command.specs.declared.lines.State.{State}
 use Rattle.terminal.specs.Reads.{state_after, BytesAnswered}
-use Rattle.terminal.proofs.ServedBytes.{served_leads}
-use borrow.Author.Rules.{rules}
-use native.Mathlib.Omega.{arith}
+use Rattle.terminal.proofs.ServedBytes.{serves_some, serves_within, serves_leads}
 use Rattle.terminal.proofs.serve_all.Goals as goal
 
-pub returns-then-not-written : goal.returns-then-not-written
-returns-then-not-written g c = rw c.ended.ensures (record { bytes_answered = BytesAnswered.unwritten refl refl; ready_state_2 = c.serve-served.ensures.ready_state_2 })
-
-pub loop-at-smaller : goal.loop-at-smaller
-loop-at-smaller g c =
-    let lt = c.loop-at-test.true in
-    omega (arith, lt, c.serve-served.ensures.serves.next, served_further (length c.loop-at.out) c.loop-at.state c.loop-at.at c.args.chunk.now (omega (arith, c.requires.longest_in_bounds, c.loop-at.invariant.1)) lt)
-
-pub loop-at-preserved : goal.loop-at-preserved
-loop-at-preserved g c =
-    let chunk = c.args.chunk.now in
-    let e = c.serve-served.ensures.serves in (
-      c.serve-served.ensures.ready_state_2,
-      (λ i. state_after (e.state i) (drop (e.next i) chunk)) ∙ served_leads (length c.loop-at.out) chunk c.loop-at.state c.loop-at.at ∙ c.loop-at.invariant.1,
-    )
-
-pub returns : goal.returns
+none_left : (s : State) (rest : List ℕ) → length rest ≡ 0 → s ≡ state_after s rest
 unfolding state_after
-returns g c =
-    let chunk = c.args.chunk.now in
-    record { bytes_answered = BytesAnswered.all refl refl (ap (state_after c.loop-at.state) (sym (drop_of_length-le chunk c.loop-at-test.false)) ∙ c.loop-at.invariant.1); ready_state_2 = c.loop-at.invariant.0 }
+none_left s [] over = refl
+none_left s (b ∷ bs) over = absurd (omega arith)
+
+pub slice_bounds-rest-count : goal.slice_bounds-rest-count
+slice_bounds-rest-count g c = serves_within c.serve-served.ensures.serves
+
+pub slice_bounds-rest-start : goal.slice_bounds-rest-start
+slice_bounds-rest-start g c = search (rules, slice_bounds-rest-count g c)
+
+pub loop-rest-smaller : goal.loop-rest-smaller
+loop-rest-smaller g c =
+    let some : 0 < length c.loop-rest.rest.now = grind arith in
+    grind (arith, length-drop, length-take, serves_some c.serve-served.ensures.serves (search rules) some)
+
+pub loop-rest-preserved : goal.loop-rest-preserved
+loop-rest-preserved g c =
+    record { ready = c.serve-served.ensures.ready_state_2; leads = serves_leads c.serve-served.ensures.serves ∙ c.loop-rest.invariant.leads }
+
+pub returns-clause-bytes_answered : goal.returns-clause-bytes_answered
+returns-clause-bytes_answered g c = BytesAnswered.all refl (none_left c.loop-rest.state c.loop-rest.rest.now (grind arith) ∙ c.loop-rest.invariant.leads)

@@ -1,12 +1,14 @@
-use mathlib.Core.Path.{◌≡◌}
-use Prim.Native.Nat.{◌-◌}
-use lib.ListN.{length, drop}
+use Rattle.std.proofs.Common.{◌≡◌, length}
 use Rattle.command.specs.Lines.{ReadyState}
 use Rattle.terminal.specs.Reads.{state_after}
 use Rattle.terminal.proofs.serve_all.Given as goal
 
-abbrev pub invariant-loop-at : goal.invariant-loop-at
-invariant-loop-at g l = ReadyState l.state × (state_after l.state (drop l.at l.chunk) ≡ state_after l.initial.state (drop l.initial.at l.chunk))
+abbrev pub invariant-loop-rest : goal.invariant-loop-rest
+invariant-loop-rest g l =
+    record {
+      ready : ReadyState l.state;
+      leads : state_after l.state l.rest ≡ state_after l.initial.state l.initial.rest;
+    }
 
-abbrev pub decreases-loop-at : goal.decreases-loop-at
-decreases-loop-at g l = length l.chunk - l.at
+abbrev pub decreases-loop-rest : goal.decreases-loop-rest
+decreases-loop-rest g l = length l.rest

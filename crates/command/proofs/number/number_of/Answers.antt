@@ -1,41 +1,18 @@
--- `number_of` meets its contract: a field without bytes is no number, and a minus stands before the digits.
+-- `number_of` meets its contract: a minus stands before the digits.
 -- Assumes nothing.
-use mathlib.Core.Path.{◌≡◌, refl, sym, ap, ◌∙◌}
-use mathlib.Core.Bool.{true, false}
-use mathlib.Core.List.{List, [], ◌∷◌}
-use Prim.Native.Nat.{ℕ, ◌-◌}
-use native.Mathlib.Omega.{arith}
-use borrow.Author.Tests.{eq-eqb, ne_eqb}
-use lib.ListN.{length, drop, get_or, length-drop}
-use lib.Seq.{take_all}
-use Rattle.command.specs.declared.number.Number.{Number}
+use Rattle.std.proofs.Common.{◌≡◌, ℕ, true, false, cond, List, [], ◌∷◌, drop, take, sym, refl, ◌∙◌, nat_eq}
+use lib.Pointwise.{pointwise}
+use Rattle.std.proofs.Math.Bool.{and-true}
 use Rattle.command.specs.Numbers.{signed_of, number_of}
 use Rattle.command.proofs.number.number_of.Goals as goal
 
--- a field: without bytes, with a minus in front, and without one
-number_none : (bs : List ℕ) → length bs ≡ 0 → Number.Bad ≡ number_of bs
-unfolding number_of
-number_none [] e = refl
-number_none (b ∷ bs) e = absurd (omega arith)
+by_sign : (bs : List ℕ) → number_of bs ≡ cond (pointwise nat_eq (take 1 bs) (45 ∷ [])) (signed_of true (drop 1 bs)) (signed_of false bs)
+unfolding number_of signed_of
+by_sign [] = refl
+by_sign (b ∷ bs) = simp and-true
 
-number_minus : (bs : List ℕ) → (length bs ≡ 0 → ⊥) → get_or bs 0 0 ≡ 45 → number_of bs ≡ signed_of true (drop 1 bs)
-unfolding number_of
-number_minus [] some e = absurd (some refl)
-number_minus (b ∷ bs) some e = simp (eq-eqb b 45 e)
+pub returns-in-Some : goal.returns-in-Some
+returns-in-Some c = c.signed.ensures ∙ sym (rw (by_sign c.args.field.now, c.in-Some.ensures.cases.0, c.in-Some.ensures.cases.1))
 
-number_plain : (bs : List ℕ) → (length bs ≡ 0 → ⊥) → (get_or bs 0 0 ≡ 45 → ⊥) → signed_of false bs ≡ number_of bs
-unfolding number_of
-number_plain [] some e = absurd (some refl)
-number_plain (b ∷ bs) some e = simp (ne_eqb b 45 e)
-
-pub returns-then-field-eq0 : goal.returns-then-field-eq0
-returns-then-field-eq0 c = number_none c.args.field.now c.if-field-eq0.true
-
-pub returns-then-field-eq45 : goal.returns-then-field-eq45
-returns-then-field-eq45 c =
-    let field = c.args.field.now in
-    c.signed.ensures ∙ sym (number_minus field c.if-field-eq0.false c.if-field-eq45.true ∙ ap (signed_of true) (sym (take_all (length field - 1) (drop 1 field) (omega (arith, length-drop 1 field)))))
-
-pub returns : goal.returns
-returns c =
-    c.signed-2.ensures ∙ number_plain c.args.field.now c.if-field-eq0.false c.if-field-eq45.false
+pub returns-in-None : goal.returns-in-None
+returns-in-None c = c.signed-in-None.ensures ∙ sym (rw (by_sign c.args.field.now, c.in-None.ensures.cases))

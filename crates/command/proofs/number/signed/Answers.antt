@@ -1,27 +1,24 @@
 -- `signed` meets its contract: with 1 to 10 bytes, what the digits say is ranged.
 -- Assumes nothing.
-use borrow.Author.Tests.{le-leb, lt-leb}
-use Rattle.command.specs.Numbers.{signed_of}
-use native.Mathlib.Omega.{arith}
+use Rattle.std.proofs.Common.{◌≡◌, ◌≤◌, ℕ, Bool, List, length, sym, ap, ◌∙◌, arith}
+use Rattle.std.proofs.lemmas.Bool.Decides.{nat_tests}
+use Rattle.command.specs.Numbers.{magnitude_from, ranged, most_digits, signed_of}
 use Rattle.command.proofs.number.signed.Goals as goal
 
-pub returns-then-digits-lt1 : goal.returns-then-digits-lt1
+few_digits : (minus : Bool) (ds : List ℕ) → 1 ≤ length ds → length ds ≤ most_digits → signed_of minus ds ≡ ranged minus (magnitude_from 0 ds)
 unfolding signed_of
-returns-then-digits-lt1 c = rw (lt-leb _ _ c.if-digits-lt1.true)
+few_digits minus ds some few = grind (arith, nat_tests)
 
-pub returns-then-digits-gt-DIGITS : goal.returns-then-digits-gt-DIGITS
+pub returns-then-is_empty : goal.returns-then-is_empty
 unfolding signed_of
-returns-then-digits-gt-DIGITS c = rw (le-leb _ _ c.if-digits-lt1.false, lt-leb _ _ c.if-digits-gt-DIGITS.true)
+returns-then-is_empty c = grind (arith, nat_tests)
 
-pub magnitude_of-found-requires : goal.magnitude_of-found-requires
-magnitude_of-found-requires c = omega (arith, c.if-digits-gt-DIGITS.false)
+pub returns-in_err-magnitude_of : goal.returns-in_err-magnitude_of
+returns-in_err-magnitude_of c =
+    c.from_residual.ensures
+    ∙ sym (few_digits c.args.minus c.args.digits.now (grind (arith, nat_tests)) c.if-digits-gt-DIGITS.false ∙ ap (ranged c.args.minus) (sym c.magnitude_of.ensures ∙ c.in_err-magnitude_of.was))
 
-pub returns-in-Is : goal.returns-in-Is
-unfolding signed_of
-returns-in-Is c =
-    rw (le-leb _ _ c.if-digits-lt1.false, le-leb _ _ c.if-digits-gt-DIGITS.false, ← c.magnitude_of-found.ensures, c.in-Is.is) c.ranged.ensures
-
-pub returns-in-Bad : goal.returns-in-Bad
-unfolding signed_of
-returns-in-Bad c =
-    rw (le-leb _ _ c.if-digits-lt1.false, le-leb _ _ c.if-digits-gt-DIGITS.false, ← c.magnitude_of-found.ensures, c.in-Bad.is)
+pub returns : goal.returns
+returns c =
+    c.ranged.ensures
+    ∙ sym (few_digits c.args.minus c.args.digits.now (grind (arith, nat_tests)) c.if-digits-gt-DIGITS.false ∙ ap (ranged c.args.minus) (sym c.magnitude_of.ensures ∙ c.in_ok-magnitude_of.was))

@@ -1,20 +1,57 @@
--- `copy_rows` meets its contract. The invariant: the first i places hold the first i rows, and the others what they held. A count is copied only where
--- it fits the slice, and a sound plan shows at most 128 rows.
+-- `copy_rows` meets its contract: refused, the slice is as it was; else the rows are laid over its first places, where they fit. A sound plan shows at most
+-- 128 rows.
 -- Assumes nothing.
-use Prim.Native.Nat.{◌≤◌}
-use native.Mathlib.Omega.{arith}
-use lib.ListN.{length}
-use Rattle.planner.proofs.ShownRows.{shown_rows_lem}
-use Rattle.lent.proofs.CopiedSlice.{count_places, count_rows}
+use mathlib.Core.Path.{◌≡◌, refl, sym, ap, ◌∙◌}
+use mathlib.Core.List.{List, ◌++◌}
+use Prim.Native.Nat.{◌≤◌, ◌<◌}
+use borrow.Author.Tests.{le-leb, lt-leb}
+use lib.ListN.{length, drop}
+use Rattle.std.specs.Prelude.{Ok, Err}
+use Rattle.std.proofs.lemmas.Result.{err_from_is_err_and}
+use Rattle.planner.specs.declared.Plan.{Plan}
+use Rattle.planner.specs.declared.RowRecord.{RowRecord}
+use Rattle.planner.specs.declared.Rows.{Rows}
+use Rattle.planner.specs.declared.Refusal.{Refusal}
+use Rattle.planner.specs.declared.Refusal.TheVariants.{ShortSlice}
+use Rattle.planner.specs.Shown.{Shown}
+use Rattle.planner.specs.Questions.{rows_shown, records_of, shown_rows}
+use Rattle.lent.specs.Copies.{copy_answer, copied}
+use Rattle.lent.specs.Promises.{CopyPromise}
+use Rattle.lent.proofs.CopiedSlice.{copied_laid}
 use Rattle.lent.proofs.rows.copy_rows.Goals as goal
 
-pub row_at-requires : goal.row_at-requires
-row_at-requires c =
-    let few : c.rows-rows.result.count ≤ 128 = rw c.rows-rows.ensures (shown_rows_lem c.args.plan c.requires).held.fits in
-    let counted : c.check_copy-copied.result.count ≤ c.rows-rows.result.count = rw c.check_copy-copied.ensures (count_rows c.rows-rows.result _) in
-    omega arith
+module _ (plan : Plan) (out : List RowRecord) where
+  stale : {why : Refusal} → Err why ≡ rows_shown plan → CopyPromise plan out (Err why) out
+  unfolding copy_answer
+  stale e = record { answer = rw (sym e) refl; slice = refl }
 
-pub bounds-out-i : goal.bounds-out-i
-bounds-out-i c =
-    let room : c.check_copy-copied.result.count ≤ length c.args.out.now = rw c.check_copy-copied.ensures (count_places c.rows-rows.result _) in
-    omega arith
+  module _ {rows : Rows} (shown : Ok rows ≡ rows_shown plan) (held : Shown rows) where
+    -- as many rows as are counted
+    counted : {l : List RowRecord} → l ≡ records_of rows → length l ≡ rows.count
+    counted e = ap length e ∙ sym held.held.counts
+
+    short : {l : List RowRecord} → l ≡ records_of rows → length out < length l → CopyPromise plan out (Err ShortSlice) out
+    unfolding copy_answer
+    short e few = record { answer = rw (sym shown, lt-leb _ _ (rw (counted e) at few)) refl; slice = refl }
+
+    laid : {l : List RowRecord} → l ≡ records_of rows → length l ≤ length out → CopyPromise plan out (Ok (length l)) (l ++ drop (length l) out)
+    unfolding copy_answer
+    laid {l} e room =
+        record {
+          answer = rw (sym shown, le-leb _ _ (rw (counted e) at room)) (ap Ok (counted e));
+          slice = sym (copied_laid l out room) ∙ ap (λ (xs : List RowRecord). copied xs (length l) out) (e ∙ ap shown_rows shown);
+        }
+
+pub returns-in_err-shown : goal.returns-in_err-shown
+returns-in_err-shown c =
+    let p = err_from_is_err_and c.from_residual.result c.from_residual.ensures.1 in
+    rw (p.1, p.2) (stale _ _ c.in_err-shown.ensures.value)
+
+pub as_slice-rows-requires : goal.as_slice-rows-requires
+as_slice-rows-requires c = c.in_ok-shown.ensures.shown.held.fits
+
+pub returns-then-out-count : goal.returns-then-out-count
+returns-then-out-count c = short _ _ c.in_ok-shown.ensures.value c.in_ok-shown.ensures.shown c.as_slice-rows.ensures c.if-out-count.true
+
+pub returns : goal.returns
+returns c = rw c.copy_from_slice.ensures.after (laid _ _ c.in_ok-shown.ensures.value c.in_ok-shown.ensures.shown c.as_slice-rows.ensures c.if-out-count.false)

@@ -1,73 +1,86 @@
 -- `Plan::first_fit` meets its contract: its checks are the definition's, and a sound plan's table and task may be asked.
 -- Assumes nothing.
-use mathlib.Core.Path.{◌≡◌, sym, ap, ◌∙◌}
-use Prim.Native.Nat.{ℕ, ◌<◌}
-use mathlib.Core.Bool.{Bool, true}
-use borrow.Author.Tests.{not-true, not-false}
+use Rattle.std.specs.Prelude.{Option, Some, None, Result, Ok, Err, ok_or, MatchOption, IsSomeAnd}
+use mathlib.Core.Path.{◌≡◌, refl, sym, ap, ◌∙◌}
+use mathlib.Core.Bool.{true}
+use Prim.Native.Nat.{ℕ}
+use native.Mathlib.Omega.{arith}
 use lib.IntN.{ℤ}
 use mir.Syntax.{w32}
 use mir.Val.{SFits, to_z, of_z}
 use mir.Facts.{to_z-of_z}
+use Rattle.std.proofs.lemmas.Result.{err_from_is_err_and}
 use Rattle.planner.specs.declared.Plan.{Plan}
-use Rattle.planner.specs.Instants.{amount}
-use Rattle.planner.specs.Updates.{known}
+use Rattle.planner.specs.declared.Plan.TheView.{view}
+use Rattle.planner.specs.declared.Refusal.{Refusal}
+use Rattle.planner.specs.declared.Refusal.TheVariants.{UnknownTask}
+use Rattle.planner.specs.Instants.{instant, amount}
+use Rattle.planner.specs.Updates.{known, known_place}
 use Rattle.planner.specs.Questions.{start_of}
+use Rattle.planner.proofs.Ids.{place_known, place_unknown}
 use Rattle.planner.proofs.Known.{known_true}
 use Rattle.planner.proofs.FitQuestions.{fit_unknown, fit_stale, fit_asked, asked_read, askable, start_low}
-use native.Mathlib.Omega.{arith}
 use Rattle.planner.proofs.Plan.first_fit.Goals as goal
 
--- what the test of the id says of the id itself
-id_known : (plan : Plan) (id : ℤ) {said test : Bool} → SFits w32 id → said ≡ known plan.tasks.count (to_z w32 (of_z w32 id)) → said ≡ test
-    → known plan.tasks.count id ≡ test
-id_known plan id fits said found = ap (known plan.tasks.count) (sym (to_z-of_z fits)) ∙ sym said ∙ found
+-- a place that was found, or the refusal where there is none
+some_place : (o : Option ℕ) (n : ℕ) → ok_or o UnknownTask ≡ Ok n → o ≡ Some n
+some_place (Some m) n e = cc
+some_place None n e = absurd (cc)
 
--- the id as a place
-place : (id : ℤ) {at : ℕ} → SFits w32 id → at ≡ amount (to_z w32 (of_z w32 id)) → at ≡ amount id
-place id fits is = is ∙ ap amount (to_z-of_z fits)
+no_place : (o : Option ℕ) (why : Refusal) → ok_or o UnknownTask ≡ Err why → (o ≡ None) × (why ≡ UnknownTask)
+no_place (Some m) why e = absurd (cc)
+no_place None why e = (refl, cc)
 
-below : (plan : Plan) (id : ℤ) (at : ℕ) → known plan.tasks.count id ≡ true → at ≡ amount id → at < plan.tasks.count
-below plan id at is_known is = rw is (known_true plan.tasks.count id is_known).1
+-- a place that was found is the id of a known task
+place : (plan : Plan) (id : ℤ) (n : ℕ) {o : Option ℕ} {r : Result ℕ Refusal} → SFits w32 id → o ≡ known_place plan.tasks.count (to_z w32 (of_z w32 id))
+    → r ≡ ok_or o UnknownTask → r ≡ Ok n → (known plan.tasks.count id ≡ true) × (n ≡ amount id)
+place plan id n {o} fits found given is =
+    place_known plan.tasks.count id n (ap (known_place plan.tasks.count) (sym (to_z-of_z fits)) ∙ sym found ∙ some_place o n (sym given ∙ is))
 
-pub returns-then-not-is_known : goal.returns-then-not-is_known
-returns-then-not-is_known c =
-    sym (fit_unknown c.args.self c.args.id (id_known c.args.self c.args.id c.ranges.id c.is_known.ensures c.if-not-is_known.true))
+-- a start that was found becomes its instant
+mapped : (o : Option ℕ) (r : Option ℤ) → MatchOption o (r ≡ None) (λ x. IsSomeAnd r (λ y. y ≡ instant x)) → r ≡ start_of o
+mapped None r h = h
+mapped (Some x) None h = absurd h
+mapped (Some x) (Some y) h = ap Some h
+
+pub returns-in_err-place : goal.returns-in_err-place
+returns-in_err-place c =
+    let n = no_place c.place_of.result c.in_err-place.field-0.0 (sym c.ok_or.ensures.value ∙ c.in_err-place.was) in
+    let e = err_from_is_err_and c.from_residual.result c.from_residual.ensures.1 in
+    let none = place_unknown c.self.inside.tasks.count c.args.id (rw (to_z-of_z c.ranges.id) at (sym c.place_of.ensures ∙ n.0)) in
+    rw (← c.self.view_is, fit_unknown (view c.self.inside) c.args.id none) (e.1 ∙ ap Err (e.2 ∙ n.1))
 
 pub returns-then-not-self : goal.returns-then-not-self
 returns-then-not-self c =
-    sym
-    (fit_stale c.args.self c.args.id (id_known c.args.self c.args.id c.ranges.id c.is_known.ensures c.if-not-is_known.false) (not-true _ c.if-not-self.true))
+    let p = place (view c.self.inside) c.args.id c.in_ok-place.place c.ranges.id c.place_of.ensures c.ok_or.ensures.value c.in_ok-place.was in
+    rw (← c.self.view_is) (sym (fit_stale (view c.self.inside) c.args.id p.0 c.if-not-self.true))
 
-pub amount_of-place-requires : goal.amount_of-place-requires
-amount_of-place-requires c =
-    let is_true = id_known c.args.self c.args.id c.ranges.id c.is_known.ensures c.if-not-is_known.false in
-    rw (to_z-of_z c.ranges.id) (known_true c.args.self.tasks.count c.args.id is_true).0
+pub offset_bounds-self-inside-place : goal.offset_bounds-self-inside-place
+offset_bounds-self-inside-place c =
+    let p = place (view c.self.inside) c.args.id c.in_ok-place.place c.ranges.id c.place_of.ensures c.ok_or.ensures.value c.in_ok-place.was in
+    omega (arith, known_true c.self.inside.tasks.count c.args.id p.0, c.self.invariant.tasks.held.fits)
 
-pub offset_bounds-tasks-place : goal.offset_bounds-tasks-place
-offset_bounds-tasks-place c =
-    let is_true = id_known c.args.self c.args.id c.ranges.id c.is_known.ensures c.if-not-is_known.false in
-    omega (arith, below c.args.self c.args.id c.amount_of-place.result is_true (place c.args.id c.ranges.id c.amount_of-place.ensures), c.requires.tasks.held.fits)
-
-pub bounds-tasks-place : goal.bounds-tasks-place
-bounds-tasks-place c =
-    let is_true = id_known c.args.self c.args.id c.ranges.id c.is_known.ensures c.if-not-is_known.false in
-    omega (arith, below c.args.self c.args.id c.amount_of-place.result is_true (place c.args.id c.ranges.id c.amount_of-place.ensures), c.requires.tasks.held.fits)
+pub bounds-self-inside-place : goal.bounds-self-inside-place
+bounds-self-inside-place c =
+    let p = place (view c.self.inside) c.args.id c.in_ok-place.place c.ranges.id c.place_of.ensures c.ok_or.ensures.value c.in_ok-place.was in
+    omega (arith, known_true c.self.inside.tasks.count c.args.id p.0, c.self.invariant.tasks.held.fits)
 
 pub first_fit-requires : goal.first_fit-requires
 first_fit-requires c =
-    let is_true = id_known c.args.self c.args.id c.ranges.id c.is_known.ensures c.if-not-is_known.false in
-    rw (c.lasts.ensures, place c.args.id c.ranges.id c.amount_of-place.ensures, asked_read c.args.self c.args.id is_true)
-    (askable c.args.self c.args.id is_true c.requires (not-false _ c.if-not-self.false))
+    let p = place (view c.self.inside) c.args.id c.in_ok-place.place c.ranges.id c.place_of.ensures c.ok_or.ensures.value c.in_ok-place.was in
+    rw (c.lasts.ensures, p.1, asked_read (view c.self.inside) c.args.id p.0)
+    (askable (view c.self.inside) c.args.id p.0 c.self.invariant c.if-not-self.false)
 
-pub start_of-requires : goal.start_of-requires
-start_of-requires c =
-    let is_true = id_known c.args.self c.args.id c.ranges.id c.is_known.ensures c.if-not-is_known.false in
-    rw (c.first_fit.ensures, c.lasts.ensures, place c.args.id c.ranges.id c.amount_of-place.ensures, asked_read c.args.self c.args.id is_true)
-    (start_low c.args.self c.args.id is_true c.requires (not-false _ c.if-not-self.false))
+pub map-requires : goal.map-requires
+map-requires c =
+    let p = place (view c.self.inside) c.args.id c.in_ok-place.place c.ranges.id c.place_of.ensures c.ok_or.ensures.value c.in_ok-place.was in
+    λ x e. start_low (view c.self.inside) c.args.id p.0 c.self.invariant c.if-not-self.false x
+    (rw (c.lasts.ensures, p.1, asked_read (view c.self.inside) c.args.id p.0) at (sym c.first_fit.ensures ∙ e))
 
 pub returns : goal.returns
 returns c =
-    let is_true = id_known c.args.self c.args.id c.ranges.id c.is_known.ensures c.if-not-is_known.false in
-    c.start_of.ensures
-    ∙ ap start_of (rw (c.lasts.ensures, place c.args.id c.ranges.id c.amount_of-place.ensures, asked_read c.args.self c.args.id is_true) at c.first_fit.ensures)
-    ∙ sym (fit_asked c.args.self c.args.id is_true (not-false _ c.if-not-self.false))
+    let p = place (view c.self.inside) c.args.id c.in_ok-place.place c.ranges.id c.place_of.ensures c.ok_or.ensures.value c.in_ok-place.was in
+    let found = rw (c.lasts.ensures, p.1, asked_read (view c.self.inside) c.args.id p.0) at c.first_fit.ensures in
+    rw (← c.self.view_is)
+    (ap Ok (mapped c.first_fit.result c.map.result c.map.ensures.cases ∙ ap start_of found)
+    ∙ sym (fit_asked (view c.self.inside) c.args.id p.0 c.if-not-self.false))

@@ -1,122 +1,76 @@
--- `Plan::update` meets its contract: its checks are the definition's, and accepted bounds are in range and in order.
+-- `Plan::update` meets its contract: its checks are the definition's, and an accepted update is that of the task with the id.
 -- Assumes nothing.
+use Rattle.std.specs.Prelude.{Some, Ok}
 use mathlib.Core.Path.{◌≡◌, sym, ap, ◌∙◌}
 use mathlib.Core.Bool.{Bool, true}
-use Prim.Native.Nat.{ℕ, ◌≤◌, ◌<◌}
+use Prim.Native.Nat.{ℕ, ◌<◌}
+use native.Mathlib.Omega.{arith}
 use lib.IntN.{ℤ}
 use mir.Syntax.{w32}
 use mir.Val.{SFits, to_z, of_z}
 use mir.Facts.{to_z-of_z}
 use Rattle.planner.specs.declared.Plan.{Plan}
-use Rattle.planner.specs.declared.Checked.TheVariants.{Accepted}
-use Rattle.planner.specs.Ranges.{last_start}
-use Rattle.planner.specs.Instants.{tick, amount}
-use Rattle.planner.specs.Checks.{bounds_checked}
+use Rattle.planner.specs.declared.Plan.TheInside.{Inside}
+use Rattle.planner.specs.declared.Plan.TheView.{view}
+use Rattle.planner.specs.declared.Bounds.{Bounds}
 use Rattle.planner.specs.declared.Updated.{Updated}
-use Rattle.planner.specs.Updates.{known, accepted_update, updated}
-use Rattle.planner.proofs.Signed.{bounds_read}
-use Rattle.planner.proofs.Accepted.{Bounds, bounds_accepted}
+use Rattle.planner.specs.Instants.{amount}
+use Rattle.planner.specs.Bounds.{BoundsOf}
+use Rattle.planner.specs.Updates.{known, known_place, accepted_update, updated}
+use Rattle.planner.proofs.Ids.{place_known, place_unknown}
 use Rattle.planner.proofs.Known.{known_true}
 use Rattle.planner.proofs.UpdatedPlan.{update_unknown, update_known}
-use native.Mathlib.Omega.{arith}
 use Rattle.planner.proofs.Plan.update.Goals as goal
 
--- what the test of the id says of the number itself
-id_known : (plan : Plan) (id : ℤ) {said test : Bool} → SFits w32 id → said ≡ known plan.tasks.count (to_z w32 (of_z w32 id)) → said ≡ test
-    → known plan.tasks.count id ≡ test
-id_known plan id fits said found = ap (known plan.tasks.count) (sym (to_z-of_z fits)) ∙ sym said ∙ found
+-- what the fields say of the plan
+live_is : {a : Inside} {plan : Plan} {live : Bool} → view a ≡ plan → a.live ≡ live → plan.live ≡ live
+live_is is said = ap (λ (p : Plan). p.live) (sym is) ∙ said
 
--- the numbers as they are handed on
-place : (id : ℤ) {n : ℕ} → SFits w32 id → n ≡ amount (to_z w32 (of_z w32 id)) → n ≡ amount id
-place id fits told = told ∙ ap amount (to_z-of_z fits)
+place_is : {a : Inside} {plan : Plan} (id : ℤ) → view a ≡ plan → SFits w32 id → known_place a.tasks.count (to_z w32 (of_z w32 id)) ≡ known_place plan.tasks.count id
+place_is {a} id is fits = ap (known_place a.tasks.count) (to_z-of_z fits) ∙ ap (λ (p : Plan). known_place p.tasks.count id) is
 
-moment : (bound : ℤ) {n : ℕ} → SFits w32 bound → n ≡ tick (to_z w32 (of_z w32 bound)) → n ≡ tick bound
-moment bound fits told = told ∙ ap tick (to_z-of_z fits)
+-- a place that was found is the id of a known task
+module _ {a : Inside} (plan : Plan) (is : view a ≡ plan) (id : ℤ) (fits : SFits w32 id) (place : ℕ) (found : Some place ≡ known_place a.tasks.count (to_z w32 (of_z w32 id))) where
+  is_known : (known plan.tasks.count id ≡ true) × (place ≡ amount id)
+  is_known = place_known plan.tasks.count id place (sym (found ∙ place_is id is fits))
 
--- what both kinds of update demand, and what they give
-module _ (plan : Plan) (id earliest latest : ℤ) (at from to : ℕ) (is_known : known plan.tasks.count id ≡ true)
-    (bounds_found : bounds_checked earliest latest ≡ Accepted) (at_is : at ≡ amount id) (from_is : from ≡ tick earliest) (to_is : to ≡ tick latest) where
-  inside : (at < plan.tasks.count) × (from ≤ to) × (to ≤ last_start)
-  inside =
-      let low = (known_true plan.tasks.count id is_known).1 in
-      let b : Bounds earliest latest = bounds_accepted bounds_found in
-      (omega (arith, at_is), omega (arith, from_is, to_is, b.order), omega (arith, to_is, b.top))
+  below : place < plan.tasks.count
+  below = omega (arith, is_known, known_true plan.tasks.count id is_known.0)
 
-  whole : {r : Updated} → r ≡ accepted_update plan at from to → r ≡ updated plan id earliest latest
-  whole is =
-      is ∙ (λ i. accepted_update plan (at_is i) (from_is i) (to_is i))
-      ∙ sym (update_known plan id earliest latest Accepted is_known bounds_found)
+  -- an update with accepted bounds
+  module _ (earliest latest : ℤ) (low : SFits w32 earliest) (high : SFits w32 latest) (b : Bounds)
+      (given : BoundsOf (to_z w32 (of_z w32 earliest)) (to_z w32 (of_z w32 latest)) (Ok b)) where
+    bounds : BoundsOf earliest latest (Ok b)
+    bounds = rw (to_z-of_z low, to_z-of_z high) at given
 
-pub returns-then-not-is_known : goal.returns-then-not-is_known
-returns-then-not-is_known c =
-    record {
-      value = c.refused_update.ensures ∙ sym (update_unknown c.args.self c.args.id c.args.earliest c.args.latest (id_known c.args.self c.args.id c.ranges.id c.is_known.ensures c.if-not-is_known.true));
-      sound = rw c.refused_update.ensures c.requires;
-    }
+    whole : {r : Updated} → r ≡ accepted_update plan place b.earliest b.latest → r ≡ updated plan id earliest latest
+    whole is =
+        is ∙ (λ i. accepted_update plan (is_known.1 i) (bounds.1 i) (bounds.2 i))
+        ∙ sym (update_known plan id earliest latest (Ok tt) is_known.0 bounds.0)
 
-pub amount_of-place-requires : goal.amount_of-place-requires
-amount_of-place-requires c =
-    rw (to_z-of_z c.ranges.id) (known_true c.args.self.tasks.count c.args.id (id_known c.args.self c.args.id c.ranges.id c.is_known.ensures c.if-not-is_known.false)).0
-
-pub tick_of-from-requires : goal.tick_of-from-requires
-tick_of-from-requires c =
-    rw (to_z-of_z c.ranges.earliest) (bounds_accepted (bounds_read c.args.earliest c.args.latest c.ranges.earliest c.ranges.latest c.check_bounds-checked.ensures ∙ c.in-Accepted.is)).earliest_in
-
-pub tick_of-to-requires : goal.tick_of-to-requires
-tick_of-to-requires c =
-    rw (to_z-of_z c.ranges.latest) (bounds_accepted (bounds_read c.args.earliest c.args.latest c.ranges.earliest c.ranges.latest c.check_bounds-checked.ensures ∙ c.in-Accepted.is)).latest_in
+pub returns-in_default : goal.returns-in_default
+returns-in_default c =
+    let none = place_unknown c.args.self.tasks.count c.args.id (sym (c.in_default.ensures ∙ place_is c.args.id c.self.view_is c.ranges.id)) in
+    c.refused_update.ensures ∙ sym (update_unknown c.args.self c.args.id c.args.earliest c.args.latest none)
 
 pub live_update-requires : goal.live_update-requires
-live_update-requires c =
-    let is_true = id_known c.args.self c.args.id c.ranges.id c.is_known.ensures c.if-not-is_known.false in
-    let found = bounds_read c.args.earliest c.args.latest c.ranges.earliest c.ranges.latest c.check_bounds-checked.ensures ∙ c.in-Accepted.is in
-    let w = inside c.args.self c.args.id c.args.earliest c.args.latest c.amount_of-place.result c.tick_of-from.result c.tick_of-to.result is_true found
-    (place c.args.id c.ranges.id c.amount_of-place.ensures)
-    (moment c.args.earliest c.ranges.earliest c.tick_of-from.ensures)
-    (moment c.args.latest c.ranges.latest c.tick_of-to.ensures) in
-    (c.requires, c.if-self.true, w.0, w.1, w.2)
+live_update-requires c = (live_is c.self.view_is c.if-self.true, below c.args.self c.self.view_is c.args.id c.ranges.id c.in-Some.place c.in-Some.ensures)
 
 pub stale_update-requires : goal.stale_update-requires
-stale_update-requires c =
-    let is_true = id_known c.args.self c.args.id c.ranges.id c.is_known.ensures c.if-not-is_known.false in
-    let found = bounds_read c.args.earliest c.args.latest c.ranges.earliest c.ranges.latest c.check_bounds-checked.ensures ∙ c.in-Accepted.is in
-    let w = inside c.args.self c.args.id c.args.earliest c.args.latest c.amount_of-place.result c.tick_of-from.result c.tick_of-to.result is_true found
-    (place c.args.id c.ranges.id c.amount_of-place.ensures)
-    (moment c.args.earliest c.ranges.earliest c.tick_of-from.ensures)
-    (moment c.args.latest c.ranges.latest c.tick_of-to.ensures) in
-    (c.requires, c.if-self.false, w.0, w.1, w.2)
+stale_update-requires c = (live_is c.self.view_is c.if-self.false, below c.args.self c.self.view_is c.args.id c.ranges.id c.in-Some.place c.in-Some.ensures)
 
-pub returns-in-Refused : goal.returns-in-Refused
-returns-in-Refused c =
-    let is_true = id_known c.args.self c.args.id c.ranges.id c.is_known.ensures c.if-not-is_known.false in
-    let found = bounds_read c.args.earliest c.args.latest c.ranges.earliest c.ranges.latest c.check_bounds-checked.ensures ∙ c.in-Refused.is in
-    record {
-      value = c.refused_update-in-Refused.ensures ∙ sym (update_known c.args.self c.args.id c.args.earliest c.args.latest _ is_true found);
-      sound = rw c.refused_update-in-Refused.ensures c.requires;
-    }
+pub returns-in-Err : goal.returns-in-Err
+returns-in-Err c =
+    let p = is_known c.args.self c.self.view_is c.args.id c.ranges.id c.in-Some.place c.in-Some.ensures in
+    c.refused_update-in-Err.ensures
+    ∙ sym (update_known c.args.self c.args.id c.args.earliest c.args.latest _ p.0 (rw (to_z-of_z c.ranges.earliest, to_z-of_z c.ranges.latest) at c.in-Err.ensures))
 
-pub returns-then-self : goal.returns-then-self
-returns-then-self c =
-    let is_true = id_known c.args.self c.args.id c.ranges.id c.is_known.ensures c.if-not-is_known.false in
-    let found = bounds_read c.args.earliest c.args.latest c.ranges.earliest c.ranges.latest c.check_bounds-checked.ensures ∙ c.in-Accepted.is in
-    record {
-      value = whole c.args.self c.args.id c.args.earliest c.args.latest c.amount_of-place.result c.tick_of-from.result c.tick_of-to.result is_true found
-          (place c.args.id c.ranges.id c.amount_of-place.ensures)
-          (moment c.args.earliest c.ranges.earliest c.tick_of-from.ensures)
-          (moment c.args.latest c.ranges.latest c.tick_of-to.ensures)
-          c.live_update.ensures.value;
-      sound = c.live_update.ensures.sound;
-    }
+pub returns-in-Ok : goal.returns-in-Ok
+returns-in-Ok c =
+    whole c.args.self c.self.view_is c.args.id c.ranges.id c.in-Some.place c.in-Some.ensures c.args.earliest c.args.latest c.ranges.earliest c.ranges.latest
+    c.in-Ok.bounds c.in-Ok.ensures c.live_update.ensures
 
-pub returns-else-self : goal.returns-else-self
-returns-else-self c =
-    let is_true = id_known c.args.self c.args.id c.ranges.id c.is_known.ensures c.if-not-is_known.false in
-    let found = bounds_read c.args.earliest c.args.latest c.ranges.earliest c.ranges.latest c.check_bounds-checked.ensures ∙ c.in-Accepted.is in
-    record {
-      value = whole c.args.self c.args.id c.args.earliest c.args.latest c.amount_of-place.result c.tick_of-from.result c.tick_of-to.result is_true found
-          (place c.args.id c.ranges.id c.amount_of-place.ensures)
-          (moment c.args.earliest c.ranges.earliest c.tick_of-from.ensures)
-          (moment c.args.latest c.ranges.latest c.tick_of-to.ensures)
-          c.stale_update.ensures.value;
-      sound = c.stale_update.ensures.sound;
-    }
+pub returns-in-Ok-2 : goal.returns-in-Ok-2
+returns-in-Ok-2 c =
+    whole c.args.self c.self.view_is c.args.id c.ranges.id c.in-Some.place c.in-Some.ensures c.args.earliest c.args.latest c.ranges.earliest c.ranges.latest
+    c.in-Ok-2.bounds c.in-Ok-2.ensures c.stale_update.ensures

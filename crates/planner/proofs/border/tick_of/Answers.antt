@@ -19,12 +19,9 @@ module _ (bound : ℤ) (fits : SFits w32 bound) (within : InRange bounds bound) 
   sum_fits : SFits w32 (to_z w32 (of_z w32 bound) +ℤ pos max_bound)
   sum_fits = rw sum (record { sfits = omega (arith, tick_top within) })
 
-pub overflow_add-result : goal.overflow_add-result
-overflow_add-result c = sum_fits c.args.bound c.ranges.bound c.requires
-
-pub overflow_cast-result : goal.overflow_cast-result
-overflow_cast-result c =
-    rw (to_z-of_z (sum_fits c.args.bound c.ranges.bound c.requires), sum c.args.bound c.ranges.bound c.requires) (tt, record { fits = omega (arith, tick_top c.requires) })
+pub overflow_add-bound : goal.overflow_add-bound
+overflow_add-bound c = sum_fits c.args.bound c.ranges.bound c.requires
 
 pub returns : goal.returns
-returns c = ap nat_abs (to_z-of_z (sum_fits c.args.bound c.ranges.bound c.requires) ∙ sum c.args.bound c.ranges.bound c.requires)
+returns c =
+    c.unsigned_abs.ensures.value ∙ ap nat_abs (to_z-of_z (sum_fits c.args.bound c.ranges.bound c.requires) ∙ sum c.args.bound c.ranges.bound c.requires)

@@ -14,7 +14,7 @@ use Rattle.sweep.specs.Created.{created, created_from}
 use Rattle.planner.specs.declared.Jobs.{Jobs}
 use Rattle.planner.specs.Instants.{amount}
 use Rattle.planner.specs.Answers.{swept_plan}
-use Rattle.planner.specs.Loads.{jobs_of, task_of, accepted_load}
+use Rattle.planner.specs.Loads.{jobs_of, task_of, with_places, accepted_load}
 use Rattle.planner.proofs.Accepted.{capacity_accepted}
 use Rattle.planner.proofs.LoadedTasks.{tasks_held, jobs_few, loaded_sound}
 use Rattle.planner.proofs.Known.{tasks_of_lem}
@@ -37,20 +37,14 @@ tasks_of-requires c = c.requires.0
 pub create_tasks-created-requires : goal.create_tasks-created-requires
 create_tasks-created-requires c = rw c.tasks_of.ensures (tasks_held (map task_of (jobs_of c.args.jobs)) (jobs_few c.args.jobs c.requires.0))
 
-pub amount_of-requires : goal.amount_of-requires
-amount_of-requires c =
-    rw (to_z-of_z c.ranges.capacity) (capacity_accepted c.requires.1).low
-
-pub swept_plan-updated-requires : goal.swept_plan-updated-requires
-swept_plan-updated-requires c =
+pub swept_plan-requires : goal.swept_plan-requires
+swept_plan-requires c =
     (rw (made c.args.jobs c.tasks_of.result c.create_tasks-created.result c.tasks_of.ensures c.create_tasks-created.ensures) (loaded_sound c.args.jobs c.requires.0), rw (number c.args.capacity c.ranges.capacity c.amount_of.ensures) (capacity_accepted c.requires.1).top)
 
 pub returns : goal.returns
 unfolding accepted_load
 returns c =
-    let u : c.swept_plan-updated.result ≡ swept_plan (amount c.args.capacity) (created (map task_of (jobs_of c.args.jobs))) =
-    c.swept_plan-updated.ensures.value ∙ (λ i. swept_plan (number c.args.capacity c.ranges.capacity c.amount_of.ensures i) (tasks c.args.jobs c.tasks_of.result c.create_tasks-created.result c.tasks_of.ensures c.create_tasks-created.ensures i)) in
-    record {
-      value = (λ i. record { answer = (u i).answer; row = (u i).row; placed = (made c.args.jobs c.tasks_of.result c.create_tasks-created.result c.tasks_of.ensures c.create_tasks-created.ensures i).placed; plan = (u i).plan });
-      sound = c.swept_plan-updated.ensures.sound;
-    }
+    let u : c.swept_plan.result ≡ swept_plan (amount c.args.capacity) (created (map task_of (jobs_of c.args.jobs))) =
+    c.swept_plan.ensures ∙ (λ i. swept_plan (number c.args.capacity c.ranges.capacity c.amount_of.ensures i) (tasks c.args.jobs c.tasks_of.result c.create_tasks-created.result c.tasks_of.ensures c.create_tasks-created.ensures i)) in
+    let made-of = made c.args.jobs c.tasks_of.result c.create_tasks-created.result c.tasks_of.ensures c.create_tasks-created.ensures in
+    c.with_places.ensures ∙ (λ i. with_places (made-of i).placed (u i))

@@ -20,12 +20,6 @@ tick_of-requires c = rw (back c.args.job.earliest (record { sfits = omega arith 
 pub tick_of-requires-2 : goal.tick_of-requires-2
 tick_of-requires-2 c = rw (back c.args.job.latest (record { sfits = omega arith })) (job_accepted c.requires).starts.latest_in
 
-pub amount_of-requires : goal.amount_of-requires
-amount_of-requires c = rw (back c.args.job.duration (record { sfits = omega arith })) (job_accepted c.requires).duration.low
-
-pub amount_of-requires-2 : goal.amount_of-requires-2
-amount_of-requires-2 c = rw (back c.args.job.usage (record { sfits = omega arith })) (job_accepted c.requires).usage.low
-
 pub returns : goal.returns
 returns c =
     let j = c.args.job in

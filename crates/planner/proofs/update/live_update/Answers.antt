@@ -1,168 +1,154 @@
--- `live_update` meets its contract: the table is edited from the task's old part to its new one, and where it is over nothing has changed.
+-- `live_update` meets its contract: the table is edited from the task's old part to its new one, and where it is full the plan is as it was.
 -- Assumes nothing.
+use Rattle.std.specs.Prelude.{Option, Some, None, Result, Ok, Err}
 use mathlib.Core.Path.{◌≡◌, sym, ap, ◌∙◌}
-use mathlib.Core.Bool.{true, false}
-use Prim.Native.Nat.{ℕ, ◌≤◌, ◌<◌}
-use lib.ListN.{get_or}
+use mathlib.Core.Bool.{true}
+use Prim.Native.Nat.{ℕ, ◌<◌}
+use lib.ListN.{get_or, set}
 use Rattle.time_table.specs.declared.Part.{Part}
-use Rattle.time_table.specs.declared.Edited.{Edited}
-use Rattle.time_table.specs.Rows.{rows_of}
-use Rattle.time_table.specs.Update.{updated}
+use Rattle.time_table.specs.declared.Row.{Row}
+use Rattle.time_table.specs.declared.Table.{Table}
+use Rattle.time_table.specs.declared.TooManyRows.{TooManyRows}
+use Rattle.time_table.specs.Rows.{rows_of, Clean}
+use Rattle.time_table.specs.Overload.{conflict_in}
+use Rattle.time_table.specs.Update.{updated, Updatable}
 use Rattle.sweep.specs.declared.Task.{Task}
 use Rattle.sweep.specs.declared.Tasks.{Tasks}
 use Rattle.sweep.specs.Tasks.{no_task, tasks_of, task_at, part_of}
 use Rattle.planner.specs.declared.Plan.{Plan}
-use Rattle.planner.specs.declared.Answer.{Answer}
-use Rattle.planner.specs.declared.Refusal.TheVariants.{TooManyRows}
-use Rattle.planner.specs.Ranges.{last_start}
-use Rattle.planner.specs.Sound.{SoundTasks, Live, Sound}
-use Rattle.planner.specs.Answers.{live_plan}
+use Rattle.planner.specs.declared.Plan.TheView.{view}
+use Rattle.planner.specs.declared.Bounds.{Bounds}
+use Rattle.planner.specs.declared.RowRecord.{RowRecord}
+use Rattle.planner.specs.declared.Updated.{Updated}
+use Rattle.planner.specs.declared.Refusal.TheVariants as Refusal
+use Rattle.planner.specs.Ranges.{last_end}
+use Rattle.planner.specs.Records.{no_record}
+use Rattle.planner.specs.Answers.{answer_of, shown_row}
+use Rattle.planner.specs.Sound.{Sound}
 use Rattle.planner.specs.Updates.{bounded, accepted_update}
-use Rattle.planner.proofs.Limits.{ends}
-use Rattle.planner.proofs.AnswerAndPlan.{live_sound, shown_low, live_over, live_fits}
-use Rattle.planner.proofs.UpdatedPlan.{read_is, updatable, stored, stored_sound, edit_over, edit_live, edit_clean, edit_whole}
-use native.Mathlib.Omega.{arith}
+use Rattle.planner.proofs.AnswerAndPlan.{live_sound, shown_low, live_is}
+use Rattle.planner.proofs.UpdatedPlan.{read_is, updatable, stored, stored_sound, edit_full, edit_live, edit_whole}
 use Rattle.planner.proofs.update.live_update.Goals as goal
+use Rattle.planner.proofs.update.live_update.Goals.{After-update_time_table-edited, in-Ok, in-None, in-Some, in-Err}
 
--- what the function requires
-abbrev Given : Plan → ℕ → ℕ → ℕ → Type 0
-Given plan i e l = Sound plan × (plan.live ≡ true) × (i < plan.tasks.count) × (e ≤ l) × (l ≤ last_start)
+-- what an edit that has room leaves: k in the place of the task i, and the table t
+record Edited (plan : Plan) (i : ℕ) (b : Bounds) (k : Task) (t : Table) : Type 0 where
+  clean : Clean t
+  kept : Sound (record { capacity = plan.capacity; tasks = record { list = set plan.tasks.list i k; count = plan.tasks.count }; live = plan.live; table = t })
+  low : (c : Option Row) → c ≡ conflict_in plan.capacity (rows_of t) → (r : Row) → c ≡ Some r → (r.start < last_end) × (r.end < last_end)
+  value : (c : Option Row) → c ≡ conflict_in plan.capacity (rows_of t) → (r : RowRecord) → r ≡ shown_row c
+      → ◌≡◌ {A = Updated}
+      (record {
+        plan = record { table = t; tasks = record { list = set plan.tasks.list i k; count = plan.tasks.count }; capacity = plan.capacity; live = plan.live };
+        answer = answer_of c;
+        row = r;
+      })
+      (accepted_update plan i b.earliest b.latest)
 
--- the task as it was read, and as it is to be
-module _ (plan : Plan) (i e l : ℕ) (pre : Given plan i e l) where
-  read : get_or plan.tasks.list i no_task ≡ task_at (tasks_of plan.tasks) i
-  read = read_is plan pre.0 i e l pre.2 pre.3 pre.4
+-- what an edit that has no room leaves, with the table t: the plan as it was
+record Full (plan : Plan) (i : ℕ) (b : Bounds) (t : Table) : Type 0 where
+  same : record { table = t; tasks = plan.tasks; capacity = plan.capacity; live = plan.live } ≡ plan
+  value : (r : RowRecord) → r ≡ no_record
+      → ◌≡◌ {A = Updated}
+      (record { plan = record { table = t; tasks = plan.tasks; capacity = plan.capacity; live = plan.live }; answer = Err Refusal.TooManyRows; row = r })
+      (accepted_update plan i b.earliest b.latest)
 
-  module _ (k : Task) (told : k ≡ bounded (get_or plan.tasks.list i no_task) e l) where
-    new_is : k ≡ bounded (task_at (tasks_of plan.tasks) i) e l
-    new_is = rw read at told
+-- the task as it is to be, and its two parts, as the code has them
+module _ (plan : Plan) (s : Sound plan) (i : ℕ) (b : Bounds) (lt : i < plan.tasks.count) (k : Task) (told : k ≡ bounded (get_or plan.tasks.list i no_task) b.earliest b.latest) where
+  new_is : k ≡ bounded (task_at (tasks_of plan.tasks) i) b.earliest b.latest
+  new_is = rw (read_is plan s i b.earliest b.latest lt b.ordered b.low) at told
 
--- the task's old part and its new one
-abbrev old_part : Plan → ℕ → Part
-old_part plan i = part_of i (task_at (tasks_of plan.tasks) i)
+  module _ (was will : Part) (was_told : was ≡ part_of i (get_or plan.tasks.list i no_task)) (will_told : will ≡ part_of i k) where
+    old_part : was ≡ part_of i (task_at (tasks_of plan.tasks) i)
+    old_part = was_told ∙ ap (part_of i) (read_is plan s i b.earliest b.latest lt b.ordered b.low)
 
-abbrev new_part : Plan → ℕ → ℕ → ℕ → Part
-new_part plan i e l = part_of i (bounded (task_at (tasks_of plan.tasks) i) e l)
+    new_part : will ≡ part_of i (bounded (task_at (tasks_of plan.tasks) i) b.earliest b.latest)
+    new_part = will_told ∙ ap (part_of i) new_is
 
-module _ (plan : Plan) (i e l : ℕ) (pre : Given plan i e l) (k : Task) (told : k ≡ bounded (get_or plan.tasks.list i no_task) e l) (was will : Part)
-    (was_told : was ≡ part_of i (get_or plan.tasks.list i no_task)) (will_told : will ≡ part_of i k) where
-  old_part_lem : was ≡ old_part plan i
-  old_part_lem = was_told ∙ ap (part_of i) (read plan i e l pre)
+    can : plan.live ≡ true → Updatable was will plan.table
+    can live = rw (old_part, new_part) (updatable plan s i b.earliest b.latest lt b.ordered b.low live)
 
-  new_part_lem : will ≡ new_part plan i e l
-  new_part_lem = will_told ∙ ap (part_of i) (new_is plan i e l pre k told)
+    edit : {r : Result Table TooManyRows} → updated was will plan.table ≡ r
+        → updated (part_of i (task_at (tasks_of plan.tasks) i)) (part_of i (bounded (task_at (tasks_of plan.tasks) i) b.earliest b.latest)) plan.table ≡ r
+    edit edited = (λ j. updated (sym old_part j) (sym new_part j) plan.table) ∙ edited
 
-  -- the edit is from the one to the other
-  module _ (r : Edited) (edit_told : r ≡ updated was will plan.table) where
-    edit : r ≡ updated (old_part plan i) (new_part plan i e l) plan.table
-    edit = edit_told ∙ (λ j. updated (old_part_lem j) (new_part_lem j) plan.table)
+    -- an edit that has room
+    module _ (t : Table) (edited : updated was will plan.table ≡ Ok t) (live : plan.live ≡ true) where
+      abbrev tasks : Tasks
+      tasks = stored plan s i b.earliest b.latest lt b.ordered b.low k new_is
 
--- the tasks with the new one
-module _ (plan : Plan) (i e l : ℕ) (pre : Given plan i e l) (k : Task) (told : k ≡ bounded (get_or plan.tasks.list i no_task) e l) where
-  abbrev tasks : Tasks
-  tasks = stored plan pre.0 i e l pre.2 pre.3 pre.4 k (new_is plan i e l pre k told)
+      done : Edited plan i b k t
+      done =
+          let is = edit edited in
+          let sound = stored_sound plan s i b.earliest b.latest lt b.ordered b.low k new_is in
+          let right = edit_live plan s i b.earliest b.latest lt b.ordered b.low k new_is live t is in
+          let whole = edit_whole plan s i b.earliest b.latest lt b.ordered b.low k new_is live t is in
+          record {
+            clean = right.clean;
+            kept = rw live (live_sound plan.capacity _ t sound right s.capacity);
+            low = shown_low plan.capacity _ t sound right s.capacity;
+            value = λ c e r g.
+                (λ j. record { plan = record { table = t; tasks = tasks; capacity = plan.capacity; live = live j }; answer = answer_of c; row = r })
+                ∙ live_is plan.capacity _ t sound right s.capacity c e r g ∙ whole;
+          }
 
-  sound : SoundTasks tasks
-  sound = stored_sound plan pre.0 i e l pre.2 pre.3 pre.4 k (new_is plan i e l pre k told)
-
-  -- where it has room, the table is right for them
-  module _ (r : Edited) (edited : r ≡ updated (old_part plan i) (new_part plan i e l) plan.table) (room : r.over ≡ false) where
-    right : Live tasks r.table
-    right = edit_live plan pre.0 i e l pre.2 pre.3 pre.4 k (new_is plan i e l pre k told) pre.1 r edited room
-
-    whole : live_plan plan.capacity (tasks_of tasks) (rows_of r.table) ≡ accepted_update plan i e l
-    whole = edit_whole plan pre.0 i e l pre.2 pre.3 pre.4 k (new_is plan i e l pre k told) pre.1 r edited room
-
-    kept : Sound (record { capacity = plan.capacity; tasks = tasks; live = true; table = r.table })
-    kept = live_sound _ tasks _ sound right pre.0.capacity
-
-pub offset_bounds-list-id : goal.offset_bounds-list-id
-offset_bounds-list-id c = omega (arith, c.requires.0.tasks.held.fits)
-
-pub bounds-list-id : goal.bounds-list-id
-bounds-list-id c = omega (arith, c.requires.0.tasks.held.fits)
-
-pub overflow_cast-place : goal.overflow_cast-place
-overflow_cast-place c = omega (arith, c.requires.0.tasks.held.fits)
-
-pub mandatory_part-requires : goal.mandatory_part-requires
-mandatory_part-requires c =
-    rw (read c.args.plan c.args.id c.args.earliest c.args.latest c.requires) (omega (arith, ends c.args.plan.tasks c.requires.0.tasks c.args.id))
-
-pub mandatory_part-requires-2 : goal.mandatory_part-requires-2
-mandatory_part-requires-2 c =
-    rw (new_is c.args.plan c.args.id c.args.earliest c.args.latest c.requires c.rebounded-new.result c.rebounded-new.ensures) (omega (arith, c.requires.0.tasks.limited c.args.id c.requires.2, c.requires.3, c.requires.4))
+    -- an edit that has no room
+    full : (t : Table) (why : TooManyRows) → (updated was will plan.table ≡ Err why) × (t ≡ plan.table) → plan.live ≡ true → Full plan i b t
+    full t why edited live =
+        let same : record { table = t; tasks = plan.tasks; capacity = plan.capacity; live = plan.live } ≡ plan =
+        λ j. record { table = edited.1 j; tasks = plan.tasks; capacity = plan.capacity; live = plan.live } in
+        let refused = edit_full plan s i b.earliest b.latest lt b.ordered b.low k new_is live why (edit edited.0) in
+        record {
+          same = same;
+          value = λ r n. (λ j. record { plan = same j; answer = Err Refusal.TooManyRows; row = n j }) ∙ refused;
+        }
 
 pub update_time_table-edited-requires : goal.update_time_table-edited-requires
 update_time_table-edited-requires c =
-    let p = c.args.plan in
-    rw (
-      old_part_lem p c.args.id c.args.earliest c.args.latest c.requires c.rebounded-new.result c.rebounded-new.ensures c.mandatory_part.result c.mandatory_part-2.result c.mandatory_part.ensures c.mandatory_part-2.ensures,
-      new_part_lem p c.args.id c.args.earliest c.args.latest c.requires c.rebounded-new.result c.rebounded-new.ensures c.mandatory_part.result c.mandatory_part-2.result c.mandatory_part.ensures c.mandatory_part-2.ensures,
-    ) (updatable p c.requires.0 c.args.id c.args.earliest c.args.latest c.requires.2 c.requires.3 c.requires.4 c.requires.1)
+    let q = rw (← c.plan.view_is) at c.requires in
+    can (view c.plan.inside) c.plan.invariant c.args.id c.args.bounds q.1 c.rebounded-new.result c.rebounded-new.ensures
+    c.mandatory_part.result c.mandatory_part-2.result c.mandatory_part.ensures c.mandatory_part-2.ensures q.0
 
-pub find_conflicting_profile-conflict-requires : goal.find_conflicting_profile-conflict-requires
-find_conflicting_profile-conflict-requires c =
-    edit_clean c.args.plan c.requires.0 c.args.id c.args.earliest c.args.latest c.requires.2 c.requires.3 c.requires.4 c.rebounded-new.result
-    (new_is c.args.plan c.args.id c.args.earliest c.args.latest c.requires c.rebounded-new.result c.rebounded-new.ensures)
-    c.requires.1 c.update_time_table-edited.result
-    (edit c.args.plan c.args.id c.args.earliest c.args.latest c.requires c.rebounded-new.result c.rebounded-new.ensures c.mandatory_part.result c.mandatory_part-2.result c.mandatory_part.ensures c.mandatory_part-2.ensures c.update_time_table-edited.result c.update_time_table-edited.ensures)
+-- the edit at the code's place behind it, where it has room
+roomy : (c : After-update_time_table-edited)
+    → updated c.mandatory_part.result c.mandatory_part-2.result (view c.plan.inside).table ≡ Ok c.update_time_table-edited.new.table
+    → Edited (view c.plan.inside) c.args.id c.args.bounds c.rebounded-new.result c.update_time_table-edited.new.table
+roomy c edited =
+    let q = rw (← c.plan.view_is) at c.requires in
+    done (view c.plan.inside) c.plan.invariant c.args.id c.args.bounds q.1 c.rebounded-new.result c.rebounded-new.ensures
+    c.mandatory_part.result c.mandatory_part-2.result c.mandatory_part.ensures c.mandatory_part-2.ensures c.update_time_table-edited.new.table edited q.0
 
-pub offset_bounds-list-id-else-edited : goal.offset_bounds-list-id-else-edited
-offset_bounds-list-id-else-edited c = omega (arith, c.requires.0.tasks.held.fits)
+-- and where it has none
+refused : (c : After-update_time_table-edited) (why : TooManyRows)
+    → (updated c.mandatory_part.result c.mandatory_part-2.result (view c.plan.inside).table ≡ Err why) × (c.update_time_table-edited.new.table ≡ (view c.plan.inside).table)
+    → Full (view c.plan.inside) c.args.id c.args.bounds c.update_time_table-edited.new.table
+refused c why edited =
+    let q = rw (← c.plan.view_is) at c.requires in
+    full (view c.plan.inside) c.plan.invariant c.args.id c.args.bounds q.1 c.rebounded-new.result c.rebounded-new.ensures
+    c.mandatory_part.result c.mandatory_part-2.result c.mandatory_part.ensures c.mandatory_part-2.ensures c.update_time_table-edited.new.table why edited q.0
 
-pub bounds-list-id-else-edited : goal.bounds-list-id-else-edited
-bounds-list-id-else-edited c = omega (arith, c.requires.0.tasks.held.fits)
+pub find_conflicting_profile-requires : goal.find_conflicting_profile-requires
+find_conflicting_profile-requires c = (roomy (goal.at.find_conflicting_profile-requires c).After-update_time_table-edited c.in-Ok.ensures).clean
 
-pub record_of-row-requires : goal.record_of-row-requires
-record_of-row-requires c =
-    let r = c.update_time_table-edited.result in
-    let k = c.rebounded-new.result in
-    let is : r ≡ updated (old_part c.args.plan c.args.id) (new_part c.args.plan c.args.id c.args.earliest c.args.latest) c.args.plan.table =
-    edit c.args.plan c.args.id c.args.earliest c.args.latest c.requires k c.rebounded-new.ensures c.mandatory_part.result c.mandatory_part-2.result c.mandatory_part.ensures c.mandatory_part-2.ensures r c.update_time_table-edited.ensures in
-    shown_low _ (tasks c.args.plan c.args.id c.args.earliest c.args.latest c.requires k c.rebounded-new.ensures) _
-    (sound c.args.plan c.args.id c.args.earliest c.args.latest c.requires k c.rebounded-new.ensures)
-    (right c.args.plan c.args.id c.args.earliest c.args.latest c.requires k c.rebounded-new.ensures r is c.if-edited.false)
-    c.requires.0.capacity _ c.find_conflicting_profile-conflict.ensures c.if-conflict.true
+pub record_of-requires : goal.record_of-requires
+record_of-requires c =
+    (roomy (goal.at.record_of-requires c).After-update_time_table-edited c.in-Ok.ensures).low c.find_conflicting_profile.result c.find_conflicting_profile.ensures c.in-Some.row c.in-Some.is
 
-pub returns-then-edited : goal.returns-then-edited
-returns-then-edited c =
-    let r = c.update_time_table-edited.result in
-    let k = c.rebounded-new.result in
-    let is : r ≡ updated (old_part c.args.plan c.args.id) (new_part c.args.plan c.args.id c.args.earliest c.args.latest) c.args.plan.table =
-    edit c.args.plan c.args.id c.args.earliest c.args.latest c.requires k c.rebounded-new.ensures c.mandatory_part.result c.mandatory_part-2.result c.mandatory_part.ensures c.mandatory_part-2.ensures r c.update_time_table-edited.ensures in
-    let over = edit_over c.args.plan c.requires.0 c.args.id c.args.earliest c.args.latest c.requires.2 c.requires.3 c.requires.4 k
-    (new_is c.args.plan c.args.id c.args.earliest c.args.latest c.requires k c.rebounded-new.ensures) c.requires.1 r is c.if-edited.true in
-    let same : record { table = r.table; tasks = c.args.plan.tasks; capacity = c.args.plan.capacity; live = true } ≡ c.args.plan =
-    λ i. record { table = over.0 i; tasks = c.args.plan.tasks; capacity = c.args.plan.capacity; live = sym c.requires.1 i } in
-    record { value = (λ i. record { plan = same i; answer = Answer.Refused TooManyRows; row = c.no_record-row.ensures i }) ∙ over.1; sound = rw same c.requires.0 }
+pub invariant_of-plan-in-Ok : goal.invariant_of-plan-in-Ok
+invariant_of-plan-in-Ok c = (roomy (goal.at.invariant_of-plan-in-Ok c).After-update_time_table-edited c.in-Ok.ensures).kept
 
-pub returns-then-conflict : goal.returns-then-conflict
-returns-then-conflict c =
-    let r = c.update_time_table-edited.result in
-    let k = c.rebounded-new.result in
-    let is : r ≡ updated (old_part c.args.plan c.args.id) (new_part c.args.plan c.args.id c.args.earliest c.args.latest) c.args.plan.table =
-    edit c.args.plan c.args.id c.args.earliest c.args.latest c.requires k c.rebounded-new.ensures c.mandatory_part.result c.mandatory_part-2.result c.mandatory_part.ensures c.mandatory_part-2.ensures r c.update_time_table-edited.ensures in
-    record {
-      value = live_over _ (tasks c.args.plan c.args.id c.args.earliest c.args.latest c.requires k c.rebounded-new.ensures) _
-          (sound c.args.plan c.args.id c.args.earliest c.args.latest c.requires k c.rebounded-new.ensures)
-          (right c.args.plan c.args.id c.args.earliest c.args.latest c.requires k c.rebounded-new.ensures r is c.if-edited.false)
-          c.requires.0.capacity _ c.find_conflicting_profile-conflict.ensures _ c.if-conflict.true c.record_of-row.ensures
-          ∙ whole c.args.plan c.args.id c.args.earliest c.args.latest c.requires k c.rebounded-new.ensures r is c.if-edited.false;
-      sound = kept c.args.plan c.args.id c.args.earliest c.args.latest c.requires k c.rebounded-new.ensures r is c.if-edited.false;
-    }
+pub invariant_of-plan : goal.invariant_of-plan
+invariant_of-plan c = rw (refused (goal.at.invariant_of-plan c).After-update_time_table-edited c.in-Err.field-0 c.in-Err.ensures).same c.plan.invariant
 
-pub returns-else-conflict : goal.returns-else-conflict
-returns-else-conflict c =
-    let r = c.update_time_table-edited.result in
-    let k = c.rebounded-new.result in
-    let is : r ≡ updated (old_part c.args.plan c.args.id) (new_part c.args.plan c.args.id c.args.earliest c.args.latest) c.args.plan.table =
-    edit c.args.plan c.args.id c.args.earliest c.args.latest c.requires k c.rebounded-new.ensures c.mandatory_part.result c.mandatory_part-2.result c.mandatory_part.ensures c.mandatory_part-2.ensures r c.update_time_table-edited.ensures in
-    record {
-      value = live_fits _ (tasks c.args.plan c.args.id c.args.earliest c.args.latest c.requires k c.rebounded-new.ensures) _
-          (sound c.args.plan c.args.id c.args.earliest c.args.latest c.requires k c.rebounded-new.ensures)
-          (right c.args.plan c.args.id c.args.earliest c.args.latest c.requires k c.rebounded-new.ensures r is c.if-edited.false)
-          c.requires.0.capacity _ c.find_conflicting_profile-conflict.ensures _ c.if-conflict.false c.no_record-row.ensures
-          ∙ whole c.args.plan c.args.id c.args.earliest c.args.latest c.requires k c.rebounded-new.ensures r is c.if-edited.false;
-      sound = kept c.args.plan c.args.id c.args.earliest c.args.latest c.requires k c.rebounded-new.ensures r is c.if-edited.false;
-    }
+pub returns : goal.returns
+returns c =
+    let at = (goal.at.returns c).After-update_time_table-edited in
+    rw (← c.plan.view_is) (elim c.match-edited.branch [
+      | in-Ok w ↦
+          let e = roomy at w.in-Ok.ensures in
+          rw (w.plan-is, w.answer-is) (elim w.match-find_conflicting_profile.branch [
+            | in-None v ↦ rw v.answer-is (e.value None v.in-None.ensures v.no_record-in-None.result v.no_record-in-None.ensures)
+            | in-Some v ↦ rw v.answer-is (e.value (Some v.in-Some.row) v.in-Some.ensures v.record_of.result v.record_of.ensures)
+          ])
+      | in-Err w ↦ rw (w.plan-is, w.answer-is) ((refused at w.in-Err.field-0 w.in-Err.ensures).value w.no_record.result w.no_record.ensures)
+    ])

@@ -1,35 +1,18 @@
--- `highest` meets its contract. The invariant: the greatest height is the greater of the one so far and of those from `at` on.
+-- `highest` meets its contract: it folds the heights by their maximum, from 0 on.
 -- Assumes nothing.
-use native.Mathlib.Omega.{arith}
-use Rattle.time_table.proofs.time_table_over_interval_incremental.RowsTooHigh.{highest_here, highest_none}
+use Rattle.std.proofs.Common.{◌≡◌, ℕ, max, List, [], ◌∷◌, arith, rules}
+use Rattle.std.specs.List.{fold}
+use Rattle.std.proofs.iter.runs.Made.{chains}
+use Rattle.time_table.specs.declared.Row.{Row}
+use Rattle.time_table.specs.Overload.{highest}
 use Rattle.time_table.proofs.time_table_over_interval_incremental.highest.Goals as goal
 
-pub loop-at-init : goal.loop-at-init
-loop-at-init c = (omega arith, omega arith)
-
-pub offset_bounds-rows-at : goal.offset_bounds-rows-at
-offset_bounds-rows-at c = omega (arith, c.requires.fits)
-
-pub bounds-rows-at : goal.bounds-rows-at
-bounds-rows-at c = omega (arith, c.requires.fits)
-
-pub overflow_add-at : goal.overflow_add-at
-overflow_add-at c = omega (arith, c.requires.fits)
-
-pub loop-at-smaller-then-highest-row : goal.loop-at-smaller-then-highest-row
-loop-at-smaller-then-highest-row c = omega arith
-
-pub loop-at-preserved-then-highest-row : goal.loop-at-preserved-then-highest-row
-loop-at-preserved-then-highest-row c =
-    (omega arith, omega (arith, c.if-highest-row.true, c.loop-at.invariant.1, highest_here 0 c.args.table c.loop-at.at c.requires c.loop-at-test.true))
-
-pub loop-at-smaller : goal.loop-at-smaller
-loop-at-smaller c = omega arith
-
-pub loop-at-preserved : goal.loop-at-preserved
-loop-at-preserved c =
-    (omega arith, omega (arith, c.if-highest-row.false, c.loop-at.invariant.1, highest_here 0 c.args.table c.loop-at.at c.requires c.loop-at-test.true))
+folded : (a : ℕ) (rows : List Row) → fold (λ (h : ℕ) (r : Row). max h r.height) a rows ≡ max a (highest rows)
+unfolding highest
+folded a [] = omega arith
+folded a (r ∷ rs) = omega (arith, folded (max a r.height) rs)
 
 pub returns : goal.returns
 returns c =
-    omega (arith, c.loop-at.invariant.1, highest_none 0 c.args.table c.loop-at.at c.requires (omega (arith, c.loop-at-test.false)))
+    let is : c.fold.result ≡ fold (λ (h : ℕ) (r : Row). max h r.height) 0 c.args.rows.now = search (rules, chains) in
+    omega (arith, is, folded 0 c.args.rows.now)

@@ -1,146 +1,136 @@
 -- `State::serve` meets its contract: each byte makes the line longer or, as a line feed, has it answered, and the bytes to come lead to the same as at the
 -- start.
 -- Assumes nothing.
-use mathlib.Core.Path.{◌≡◌, refl, sym, ap, ◌∙◌, subst}
-use mathlib.Core.List.{List, [], ◌∷◌}
-use mathlib.Core.Logic.{inl, inr}
+use mathlib.Core.Path.{◌≡◌, refl, sym, ap, ◌∙◌}
+use mathlib.Core.List.{[]}
 use mir.Syntax.{w32}
 use mir.Val.{SFits}
 use mir.Facts.{to_z-of_z}
-use Prim.Native.Nat.{ℕ, ◌+◌, ◌≤◌, ◌<◌}
-use lib.IntN.{ℤ}
-use lib.ListN.{length, take, get_or}
-use denote.Enum.Declared.{tag_of}
-use types.Run.{OneOf}
-use Rattle.planner.specs.declared.Job.{Job}
-use Rattle.planner.specs.declared.Updated.{Updated}
-use Rattle.planner.specs.Sound.{Sound}
+use lib.ListN.{length, take, drop, length-drop}
 use Rattle.planner.specs.Loads.{loaded}
 use Rattle.planner.specs.Updates.{updated}
 use Rattle.planner.specs.History.{without_places}
-use Rattle.command.specs.declared.Command.{Command}
-use Rattle.command.specs.declared.Command.TheVariants.{Keep, Load, Update, Fit, Rows, Unreadable}
-use Rattle.command.specs.contracts.Command.{the_type}
 use Rattle.command.specs.declared.Session.{Session}
-use Rattle.command.specs.Text.{longest}
-use Rattle.command.specs.Written.{Written}
-use Rattle.command.specs.Sessions.{Ready, answered}
-use Rattle.command.specs.Lines.{reader_of, Gathered}
+use Rattle.command.specs.Grammar.{command_of}
+use Rattle.command.specs.Lines.{served}
 use Rattle.command.proofs.LineBytes.{reader_is}
-use Rattle.command.proofs.CommandOutcomes.{load_answered, update_answered, keep_answered, other_answered, no_jobs_held, more_kept_held}
+use Rattle.command.proofs.CommandOutcomes.{keep_answered, full_answered, load_answered, update_answered, fit_answered, rows_answered, unread_answered, no_jobs_held, keeping_held}
 use Rattle.command.proofs.WrittenText.{written_length, written_none}
-use Rattle.command.proofs.ServedLines.{Serving, serving_byte, serving_line, serving_over, serving_full, serving_done}
+use Rattle.command.proofs.ServedLines.{bytes_from, serving_byte, serving_line, serving_over, serving_full, serving_done}
 use borrow.Author.Rules.{rules}
 use native.Mathlib.Omega.{arith}
 use Rattle.command.proofs.lines.State.serve.Invariants.{from_start}
 use Rattle.command.proofs.lines.State.serve.Goals as goal
-use Rattle.command.proofs.lines.State.serve.Goals.{then-loop-at-test+else-used-out, else-loop-at-test}
+use Rattle.command.proofs.lines.State.serve.Goals.{in-Keep, in-Keep-2, in-Load, in-Update, in-Fit, in-Rows, in-Unreadable, else-loop-byte-test, then-loop-byte-test+then-answers}
 
--- a line that is answered: what is kept once it is
-next_line : {all : Gathered} {chunk out₀ line out t after : List ℕ} {s s' : Session} {len at used place next : ℕ}
-    → Serving all chunk out₀ s line len at used out
-    → at < length chunk
-    → used + longest ≤ length out
-    → get_or chunk at 0 ≡ 10
-    → answered s (take len line) ≡ record { session = s'; text = t }
-    → place ≡ used
-    → Written out place t after next
-    → Ready s'
-    → Serving all chunk out₀ s' (reader_of []).line 0 (at + 1) next after
-next_line v inside free feed is behind wrote ready = serving_line v inside (omega (arith, free, written_length v.wrote)) feed is (rw behind at wrote) ready
-
--- a command that is no load and no update; and one that keeps no job
-told_apart : (c : Command) → ((z : ℤ) → c ≡ Load z → ⊥) → ((x y z : ℤ) → c ≡ Update x y z → ⊥) → OneOf (0 ∷ 3 ∷ 4 ∷ 5 ∷ []) (tag_of the_type c)
-told_apart (Keep job) l u = inl refl
-told_apart (Load z) l u = absurd (l z refl)
-told_apart (Update x y z) l u = absurd (u x y z refl)
-told_apart (Fit id) l u = inr (inl refl)
-told_apart Rows l u = inr (inr (inl refl))
-told_apart Unreadable l u = inr (inr (inr refl))
-
-kept_apart : (c : Command) → ((job : Job) → c ≡ Keep job → ⊥) → OneOf (1 ∷ 2 ∷ 3 ∷ 4 ∷ 5 ∷ []) (tag_of the_type c)
-kept_apart (Keep job) k = absurd (k job refl)
-kept_apart (Load z) k = inl refl
-kept_apart (Update x y z) k = inr (inl refl)
-kept_apart (Fit id) k = inr (inr (inl refl))
-kept_apart Rows k = inr (inr (inr (inl refl)))
-kept_apart Unreadable k = inr (inr (inr (inr refl)))
-
-pub loop-at-init : goal.loop-at-init
-loop-at-init c =
+pub loop-byte-init : goal.loop-byte-init
+loop-byte-init c =
     record {
-      text = [];
-      wrote = written_none c.args.out.now 0 (omega arith);
-      leads = ap (from_start c.args.chunk.now c.args.from c.args.out.now c.unanswered-last.result c.args.self.session.jobs) (reader_is c.requires.ready_state.reader);
-      ready =
+      place = omega arith;
+      serving =
           record {
-            plan = subst (λ (x : Updated). Sound x.plan) (sym c.unanswered-last.ensures) c.requires.ready_state.session.plan;
-            jobs = c.requires.ready_state.session.jobs;
+            text = [];
+            front = c.new-answers.ensures.empty;
+            wrote = written_none c.new-answers.result (omega (arith, c.new-answers.ensures.empty));
+            leads = ap (from_start c.unwrap_or-byte-items.result.now c.args.from c.new-answers.result.out.now c.args.self.session.plan c.args.self.session.jobs) (reader_is c.requires.ready_state.reader);
+            ready = c.requires.ready_state.session;
+            held = c.requires.ready_state.reader;
           };
-      held = c.requires.ready_state.reader;
     }
 
-pub loop-at-preserved-then-byte-ne10 : goal.loop-at-preserved-then-byte-ne10
-loop-at-preserved-then-byte-ne10 c =
-    serving_byte c.loop-at.invariant c.loop-at-test.true (omega (arith, c.if-used-out.true, written_length c.loop-at.invariant.wrote)) c.if-byte-ne10.true c.push-len.ensures
+pub overflow_add-next : goal.overflow_add-next
+overflow_add-next c =
+    let items : c.unwrap_or-byte-items.result.now ≡ drop c.args.from c.args.chunk.now =
+    rw c.unwrap_or-byte-items.ensures (bytes_from c.args.chunk.now c.args.from c.get.result _ c.get.ensures.lookup refl) in
+    omega (arith, ap length items, length-drop c.args.from c.args.chunk.now)
 
-pub loop-at-preserved-in-Load : goal.loop-at-preserved-in-Load
-loop-at-preserved-in-Load c =
-    let s : Session = record { plan = c.loop-at.last.plan; jobs = c.loop-at.jobs } in
-    let fits : SFits w32 c.in-Load.capacity = search rules in
-    let led : c.load-last.result ≡ without_places (loaded s.plan s.jobs c.in-Load.capacity) =
-    c.load-last.ensures.value ∙ ap (λ (x : ℤ). without_places (loaded s.plan s.jobs x)) (to_z-of_z fits) in
-    next_line c.loop-at.invariant c.loop-at-test.true c.if-used-out.true c.if-byte-ne10.false
-    (load_answered s (take c.loop-at.len c.loop-at.line) c.command_of-command.ensures c.in-Load.is led c.empty-jobs.ensures)
-    (omega arith)
-    c.put_answer-used.ensures
-    (record { plan = c.load-last.ensures.sound; jobs = rw c.empty-jobs.ensures no_jobs_held })
+pub loop-byte-preserved-then-byte-ne10 : goal.loop-byte-preserved-then-byte-ne10
+loop-byte-preserved-then-byte-ne10 c =
+    let v = c.loop-byte.invariant.serving in
+    record {
+      place = omega arith;
+      serving = serving_byte v c.loop-byte-test.true c.if-answers.false c.if-byte-ne10.true c.push.ensures;
+    }
 
-pub loop-at-preserved-in-Update : goal.loop-at-preserved-in-Update
-loop-at-preserved-in-Update c =
-    let s : Session = record { plan = c.loop-at.last.plan; jobs = c.loop-at.jobs } in
-    let id : SFits w32 c.in-Update.id = search rules in
-    let earliest : SFits w32 c.in-Update.earliest = search rules in
-    let latest : SFits w32 c.in-Update.latest = search rules in
-    let led : c.update-last.result ≡ updated s.plan c.in-Update.id c.in-Update.earliest c.in-Update.latest =
-    c.update-last.ensures.value ∙ (λ i. updated s.plan (to_z-of_z id i) (to_z-of_z earliest i) (to_z-of_z latest i)) in
-    next_line c.loop-at.invariant c.loop-at-test.true c.if-used-out.true c.if-byte-ne10.false
-    (update_answered s (take c.loop-at.len c.loop-at.line) c.command_of-command.ensures c.in-Update.is led)
-    (omega arith)
-    c.put_answer-used-in-Update.ensures
-    (record { plan = c.update-last.ensures.sound; jobs = c.loop-at.invariant.ready.jobs })
-
-pub loop-at-preserved-in-Keep : goal.loop-at-preserved-in-Keep
-loop-at-preserved-in-Keep c =
-    let s : Session = record { plan = c.loop-at.last.plan; jobs = c.loop-at.jobs } in
-    next_line c.loop-at.invariant c.loop-at-test.true c.if-used-out.true c.if-byte-ne10.false
-    (keep_answered s (take c.loop-at.len c.loop-at.line) c.command_of-command.ensures c.in-Keep.is c.keep-jobs.ensures)
-    (omega arith)
-    c.tell-used.ensures
-    (record { plan = c.loop-at.invariant.ready.plan; jobs = rw c.keep-jobs.ensures (more_kept_held s.jobs _ c.loop-at.invariant.ready.jobs) })
-
-pub loop-at-preserved : goal.loop-at-preserved
-loop-at-preserved c =
-    let s : Session = record { plan = c.loop-at.last.plan; jobs = c.loop-at.jobs } in
-    next_line c.loop-at.invariant c.loop-at-test.true c.if-used-out.true c.if-byte-ne10.false
-    (other_answered s (take c.loop-at.len c.loop-at.line) c.command_of-command.ensures
-    (told_apart c.command_of-command.result c.in_default.not-Load c.in_default.not-Update)
-    (kept_apart c.command_of-command.result c.in_default-command.not-Keep))
-    (omega arith)
-    c.tell-used.ensures
-    c.loop-at.invariant.ready
+pub loop-byte-preserved : goal.loop-byte-preserved
+loop-byte-preserved c =
+    let v = c.loop-byte.invariant.serving in
+    let s : Session = record { plan = c.loop-byte.last.plan; jobs = c.loop-byte.jobs } in
+    let line = take c.loop-byte.reader.len c.loop-byte.reader.line in
+    let asked : c.command_of-command.result ≡ command_of line = c.command_of-command.ensures ∙ ap command_of c.bytes.ensures in
+    record {
+      place = omega arith;
+      serving =
+          elim c.match-command.branch [
+            | in-Keep w ↦
+                rw (c.empty-reader.ensures, w.answers-is, w.last-is, w.jobs-is)
+                (serving_line v c.loop-byte-test.true c.if-answers.false c.if-byte-ne10.false
+                (keep_answered s line asked w.in-Keep.is w.if-jobs-lt-JOBS.true w.keep-jobs.ensures)
+                (written_none c.loop-byte.answers (omega (arith, v.wrote.fits, written_length v.wrote)))
+                (record { jobs = rw w.keep-jobs.ensures (keeping_held s.jobs _ v.ready.jobs w.if-jobs-lt-JOBS.true) }))
+            | in-Keep-2 w ↦
+                rw (c.empty-reader.ensures, w.answers-is, w.last-is, w.jobs-is)
+                (serving_line v c.loop-byte-test.true c.if-answers.false c.if-byte-ne10.false
+                (full_answered s line asked w.in-Keep-2.is w.if-jobs-lt-JOBS.false)
+                w.put_refusal.ensures
+                v.ready)
+            | in-Load w ↦
+                let fits : SFits w32 w.in-Load.capacity = search rules in
+                let led : w.from-last.result ≡ without_places (loaded s.plan s.jobs w.in-Load.capacity) =
+                w.from-last.ensures ∙ ap without_places (w.load.ensures ∙ ap (loaded s.plan s.jobs) (to_z-of_z fits)) in
+                rw (c.empty-reader.ensures, w.answers-is, w.last-is, w.jobs-is)
+                (serving_line v c.loop-byte-test.true c.if-answers.false c.if-byte-ne10.false
+                (load_answered s line asked w.in-Load.is led w.empty-jobs.ensures)
+                w.put_answer.ensures
+                (record { jobs = rw w.empty-jobs.ensures no_jobs_held }))
+            | in-Update w ↦
+                let id : SFits w32 w.in-Update.id = search rules in
+                let earliest : SFits w32 w.in-Update.earliest = search rules in
+                let latest : SFits w32 w.in-Update.latest = search rules in
+                let led : w.update-last.result ≡ updated s.plan w.in-Update.id w.in-Update.earliest w.in-Update.latest =
+                w.update-last.ensures ∙ (λ i. updated s.plan (to_z-of_z id i) (to_z-of_z earliest i) (to_z-of_z latest i)) in
+                rw (c.empty-reader.ensures, w.answers-is, w.last-is, w.jobs-is)
+                (serving_line v c.loop-byte-test.true c.if-answers.false c.if-byte-ne10.false
+                (update_answered s line asked w.in-Update.is led)
+                w.put_answer-in-Update.ensures
+                (record { jobs = v.ready.jobs }))
+            | in-Fit w ↦
+                let fits : SFits w32 w.in-Fit.id = search rules in
+                rw (c.empty-reader.ensures, w.answers-is, w.last-is, w.jobs-is)
+                (serving_line v c.loop-byte-test.true c.if-answers.false c.if-byte-ne10.false
+                (fit_answered s line asked w.in-Fit.is)
+                (rw (w.first_fit.ensures, to_z-of_z fits) at w.put_fit.ensures)
+                v.ready)
+            | in-Rows w ↦
+                rw (c.empty-reader.ensures, w.answers-is, w.last-is, w.jobs-is)
+                (serving_line v c.loop-byte-test.true c.if-answers.false c.if-byte-ne10.false
+                (rows_answered s line asked w.in-Rows.is)
+                (rw w.rows.ensures.value at w.put_table.ensures)
+                v.ready)
+            | in-Unreadable w ↦
+                rw (c.empty-reader.ensures, w.answers-is, w.last-is, w.jobs-is)
+                (serving_line v c.loop-byte-test.true c.if-answers.false c.if-byte-ne10.false
+                (unread_answered s line asked w.in-Unreadable.is)
+                w.put_refusal-in-Unreadable.ensures
+                v.ready)
+          ];
+    }
 
 pub returns : goal.returns
 returns c =
-    let v = c.loop-at.invariant in
-    let same =
-    ap (λ (x : Updated). from_start c.args.chunk.now c.args.from c.args.out.now x c.args.self.session.jobs c.args.self.reader) (sym c.unanswered-last.ensures) in
+    let v = c.loop-byte.invariant.serving in
+    let items : c.unwrap_or-byte-items.result.now ≡ drop c.args.from c.args.chunk.now =
+    rw c.unwrap_or-byte-items.ensures (bytes_from c.args.chunk.now c.args.from c.get.result _ c.get.ensures.lookup refl) in
+    let same = ap (served (length c.new-answers.result.out.now) c.args.self c.args.from) (sym items) in
+    let slice = sym (v.wrote.slice ∙ c.new-answers.ensures.same_slice) in
     record {
       serves =
           serving_done v same
-          (elim c.loop-at-test.branch [
-            | then-loop-at-test+else-used-out w ↦ serving_full v (omega (arith, w.if-used-out.false, written_length v.wrote))
-            | else-loop-at-test w ↦ serving_over v w.loop-at-test.false
-          ]);
+          (elim c.loop-byte-test.branch [
+            | else-loop-byte-test w ↦ serving_over v w.loop-byte-test.false
+            | then-loop-byte-test+then-answers w ↦ serving_full v w.if-answers.true
+          ])
+          c.new-answers.ensures.unchanged
+          (search rules);
       ready_state_2 = record { session = v.ready; reader = v.held };
     }
