@@ -67,6 +67,11 @@ module _ {rows : List Row} {write read count : ℕ} {in_hand : Option Row} where
       free_hand row lt full =
           record { size = r.size; free = omega arith; within = omega arith; fits = r.fits; blank = r.blank; full = λ h. (omega arith, omega (arith, r.fits)) }
 
+-- the same, where the rows up to a number that is `count` moved up
+pub free_up_to : (rows : List Row) (read count place : ℕ) {n write r c : ℕ} {in_hand : Option Row} → Free (copy_within rows read count place) write r c in_hand → n ≡ count
+    → Free (copy_within rows read n place) write r c in_hand
+free_up_to rows read count place f same = rw same f
+
 -- the places from `write` up to `count` are cleared
 pub cleared : (rows mid : List Row) (write count : ℕ) → length rows ≡ 128 → write ≤ count → count ≤ 128 → drop count rows ≡ replicate (128 - count) empty_row
     → mid ≡ replicate (length (slice_range rows write count)) empty_row → put_mid write (count - write) rows mid ≡ take write rows ++ replicate (128 - write) empty_row
@@ -76,6 +81,11 @@ cleared rows mid write count size le fits blank e =
     let tail : mid ++ drop (count - write) (drop write rows) ≡ replicate (128 - write) empty_row =
     rw (e, long, drop-drop, there, blank, replicate-append-replicate) (ap (λ (k : ℕ). replicate k empty_row) (omega arith)) in
     ap (λ (l : List Row). take write rows ++ l) tail
+
+-- the same, where the places are cleared up to a number that is `count`
+pub cleared_up_to : (rows mid : List Row) (write count : ℕ) {n : ℕ} → length rows ≡ 128 → write ≤ count → count ≤ 128 → drop count rows ≡ replicate (128 - count) empty_row
+    → mid ≡ replicate (length (slice_range rows write n)) empty_row → n ≡ count → put_mid write (n - write) rows mid ≡ take write rows ++ replicate (128 - write) empty_row
+cleared_up_to rows mid write count size le fits blank e same = rw same (cleared rows mid write count size le fits blank (rw same at e))
 
 -- nothing is in hand where all is read
 pub none_in_hand : {A : Type 0} (o : Option A) (l : List A) → option_to_list o ++ l ≡ [] → o ≡ None
