@@ -6,7 +6,7 @@ ghost use Rattle.std.specs.Process.{exit_status};
 ghost use Rattle.command.specs.Text.{longest};
 ghost use Rattle.command.specs.Lines.{ReadyState};
 ghost use Rattle.terminal.specs.Endings.{sentence_of, status_of, Status};
-ghost use Rattle.terminal.specs.Reads.{BytesAnswered, InputEnded, FollowsRead};
+ghost use Rattle.terminal.specs.Reads.{status_here, BytesAnswered, InputEnded, FollowsRead};
 
 use command::lines::State;
 use std::io::{Read, Write};
@@ -59,6 +59,15 @@ impl fmt::Display for Ending {
 struct Reading {
     state: State,
     ended: Option<Ending>,
+}
+
+impl Reading {
+    // How the run ends if it ends here. Where it may go on, there may be more to read.
+    fn ending(&self) -> Ending
+        ensures { status_of result ≡ status_here self.now }
+    {
+        self.ended.unwrap_or(Ending::Unread)
+    }
 }
 
 // Answers the lines that these bytes end. The answers are gathered and written together, at the latest
@@ -150,14 +159,16 @@ fn run<R: Input + Print>(rt: &R, out: &mut [u8]) -> Ending
 {
     let mut input = rt.reader();
     let mut state = State::new();
+    let mut ending = Ending::Unread;
     for _ in 0..u64::MAX {
         let reading = read_some(rt, &mut input, state, out);
-        if let Some(ending) = reading.ended {
-            return ending;
+        ending = reading.ending();
+        if reading.ended.is_some() {
+            break;
         }
         state = reading.state;
     }
-    Ending::Unread
+    ending
 }
 
 // Answers standard input on standard output, and says how that ended.

@@ -27,4 +27,4 @@ loop-rest-preserved g c =
     record { ready = c.serve-served.ensures.ready_state_2; leads = serves_leads c.serve-served.ensures.serves ∙ c.loop-rest.invariant.leads }
 
 pub returns-clause-bytes_answered : goal.returns-clause-bytes_answered
-returns-clause-bytes_answered g c = BytesAnswered.all refl (none_left c.loop-rest.state c.loop-rest.rest.now (grind arith) ∙ c.loop-rest.invariant.leads)
+returns-clause-bytes_answered g c = BytesAnswered.all refl refl (none_left c.loop-rest.state c.loop-rest.rest.now (grind arith) ∙ c.loop-rest.invariant.leads)
