@@ -195,7 +195,7 @@ count_read n k e = rw (← e) (one_line_read (omega arith) (omega arith) (count_
 
 shown_read : (shown : Result Rows Refusal) → ((rows : Rows) → shown ≡ Ok rows → rows.count ≡ length (records_of rows)) → ReadsAs (table_text shown) (row_replies shown)
 unfolding table_text
-shown_read (Ok rows) counts = then_read (rows_read (records_of rows)) (count_read _ _ (counts rows refl))
+shown_read (Ok rows) counts = then_read (rows_read (records_of rows)) (count_read _ _ (omega (arith, counts rows refl)))
 shown_read (Err why) counts = refusal_read why
 
 table_read : (plan : Plan) → ReadsAs (table_text (rows_shown plan)) (row_replies (rows_shown plan))

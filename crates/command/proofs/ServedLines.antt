@@ -59,6 +59,31 @@ served_further room s at chunk enough inside =
     let rest = drop (suc at) chunk in
     rw (drop-cons chunk at 0 inside, gathered_byte room g b rest (omega (arith, enough))) (omega (arith, gathered_past room rest (gather g b)))
 
+-- Where the bytes are counted from changes the place that is told, and nothing else: what is left of a piece is served from its own front on (`serve_all` of
+-- `terminal`) as it is from its place in the piece (`Prints` in specs/Lines.antt).
+abbrev counted_on : ℕ → Gathered → Gathered
+counted_on at g = record { state = g.state; next = at + g.next; text = g.text }
+
+gathered_on : (room at : ℕ) (bytes : List ℕ) (g : Gathered) → gathered room (counted_on at g) bytes ≡ counted_on at (gathered room g bytes)
+unfolding gathered
+gathered_on room at [] g = refl
+gathered_on room at (b ∷ bytes) g =
+    let e : at + g.next + 1 ≡ at + (g.next + 1) = omega arith in
+    let turned : gather (counted_on at g) b ≡ counted_on at (gather g b) =
+    λ i. record { state = (gather g b).state; next = e i; text = (gather g b).text } in
+    go (leb (length g.text + longest) room) (ap (λ (x : Gathered). gathered room x bytes) turned ∙ gathered_on room at bytes (gather g b))
+  where
+    go : (free : Bool) → gathered room (gather (counted_on at g) b) bytes ≡ counted_on at (gathered room (gather g b) bytes)
+        → cond free (gathered room (gather (counted_on at g) b) bytes) (counted_on at g) ≡ counted_on at (cond free (gathered room (gather g b) bytes) g)
+    go true more = more
+    go false more = refl
+
+pub served_on : (room : ℕ) (s : State) (at : ℕ) (bytes : List ℕ)
+    → served room s at bytes ≡ record { state = (served room s 0 bytes).state; next = at + (served room s 0 bytes).next; text = (served room s 0 bytes).text }
+served_on room s at bytes =
+    let e : at ≡ at + 0 = omega arith in
+    (λ i. gathered room (record { state = s; next = e i; text = [] }) bytes) ∙ gathered_on room at bytes (record { state = s; next = 0; text = [] })
+
 -- the bytes from a place on, and none from a place behind the last
 pub bytes_from : (chunk : List ℕ) (from : ℕ) (found : Option (Bor (List ℕ))) (none : Bor (List ℕ)) → IsGetRangeResult chunk from (length chunk) found → none.now ≡ []
     → (unwrap_or found none).now ≡ drop from chunk

@@ -98,7 +98,7 @@ module _ (calls : List Call) where
   accepted = go shown (shown_counts plan)
     where
       go : (a : Result Rows Refusal) → ((rows : Rows) → a ≡ Ok rows → rows.count ≡ length (records_of rows)) → IsOk a → ListsRows (shown_rows a) (table_text a)
-      go (Ok rows) counts taken = lists_rows (records_of rows) _ (counts rows refl)
+      go (Ok rows) counts taken = lists_rows (records_of rows) _ (omega (arith, counts rows refl))
       go (Err why) counts taken = cc
 
   refused : verdict shown ≡ Verdict.refused 9 → table_text shown ≡ 82 ∷ 32 ∷ 57 ∷ 10 ∷ []

@@ -32,6 +32,11 @@ module _ {before after : Writer} {s : List ℕ} where
 pub written_as : {before after : Writer} {text text' : List ℕ} → Written before text after → text ≡ text' → Written before text' after
 written_as w e = rw e at w
 
+-- the same place in other words
+pub written_at : {w after : Writer} {text : List ℕ} {n : ℕ} → Written (record { out = w.out; len = n }) text after → n ≡ w.len → Written w text after
+written_at {w} {text = text} v e =
+    record { slice = v.slice; bytes = v.bytes ∙ ap (λ (k : ℕ). sets w.out.now k text) e; place = omega (arith, v.place, e); fits = v.fits }
+
 -- nothing was written
 pub written_none : (w : Writer) → w.len ≤ length w.out.now → Written w [] w
 written_none w h = record { slice = refl; bytes = refl; place = omega arith; fits = h }

@@ -3,6 +3,7 @@ use Rattle.std.specs.Prelude.{Result, cond, List, [], ℕ, ltb, ℤ}
 use Rattle.time_table.specs.Held.{Held}
 use Rattle.planner.specs.declared.Job.{Job}
 use Rattle.planner.specs.declared.Plan.{Plan}
+use Rattle.planner.specs.Sound.{Sound}
 use Rattle.planner.specs.declared.Answer.{Answer}
 use Rattle.planner.specs.declared.RowRecord.{RowRecord}
 use Rattle.planner.specs.declared.Refusal.{Refusal}
@@ -18,8 +19,9 @@ use Rattle.command.specs.declared.Command.{Command}
 use Rattle.command.specs.Grammar.{command_of}
 use Rattle.command.specs.Text.{refusal_text, answer_text, fit_text, table_text}
 
--- a session whose jobs are at most 32; only this crate makes sessions, and each that it hands out is ready. Its plan is sound, as every plan is
+-- a session whose plan is sound and whose jobs are at most 32; only this crate makes sessions, and each that it hands out is ready
 pub record Ready (s : Session) : Type 0 where
+  pub plan : Sound s.plan
   pub jobs : Held 32 no_job s.jobs.list s.jobs.count (jobs_of s.jobs)
 
 abbrev pub fresh_session : Session

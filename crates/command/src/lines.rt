@@ -134,7 +134,7 @@ impl State {
                     earliest,
                     latest,
                 } => {
-                    last = last.plan.update(id, earliest, latest);
+                    last.change(id, earliest, latest);
                     answers.put_answer(last.answer, last.row);
                 }
                 Command::Fit(id) => answers.put_fit(last.plan.first_fit(id)),

@@ -2,24 +2,26 @@
 // none since the table is stale. It writes a line for each: the answer, and each place's height.
 #![tactic(auto)]
 
+ghost use Rattle.planner.specs.Sound.{Sound};
+
 use lent::rows::copy_rows;
 use planner::{Job, Jobs, Plan, Refusal, RowRecord};
 use std::io;
 
-// Writes A and the count or R and the refusal's number, and the height of each place.
-fn show(rt: &impl Print, copied: Result<usize, Refusal>, places: &[RowRecord]) -> io::Result<()> {
+// Writes A and the count or R and the refusal's number, and the heights of three rows.
+fn show(rt: &impl Print, copied: Result<usize, Refusal>, rows: &[RowRecord; 3]) -> io::Result<()> {
     match copied {
         Ok(count) => print!(rt; "A {count}")?,
         Err(why) => print!(rt; "R {}", why.number())?,
     }
-    for place in places {
-        print!(rt; " {}", place.height)?;
-    }
-    println!(rt)
+    let [first, second, third] = rows;
+    println!(rt; " {} {} {}", first.height, second.height, third.height)
 }
 
 // Lends three places to a copy of the plan's rows.
-fn copy_three(rt: &impl Print, plan: Plan, mark: RowRecord) -> io::Result<()> {
+fn copy_three(rt: &impl Print, plan: Plan, mark: RowRecord) -> io::Result<()>
+    requires { Sound plan }
+{
     let mut places = [mark; 3];
     let copied = copy_rows(plan, &mut places);
     show(rt, copied, &places)

@@ -1,4 +1,5 @@
 // A controller that keeps one plan and lends it to be changed.
+ghost use Rattle.planner.specs.Sound.{Sound};
 ghost use Rattle.lent.specs.Promises.{FreshControllerPromise, BeginPromise, StepPromise};
 
 use crate::Changed;
@@ -29,6 +30,7 @@ impl Controller {
 
 // Lends the kept plan to a load, and keeps what it answers.
 pub fn begin(controller: Controller, jobs: Jobs, capacity: i32) -> Controller
+    requires { Sound controller.plan }
     ensures { BeginPromise controller jobs capacity result }
 {
     let mut kept = controller;
@@ -38,6 +40,7 @@ pub fn begin(controller: Controller, jobs: Jobs, capacity: i32) -> Controller
 
 // Lends the kept plan to an update, and keeps what it answers.
 pub fn step(controller: Controller, id: i32, earliest: i32, latest: i32) -> Controller
+    requires { Sound controller.plan }
     ensures { StepPromise controller id earliest latest result }
 {
     let mut kept = controller;

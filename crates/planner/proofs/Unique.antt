@@ -34,14 +34,14 @@ use Rattle.planner.proofs.Refusal.number.Reads as number
 use Rattle.planner.proofs.records.no_record.Reads as no_record
 
 pub fresh_unique : {r s : Plan} → FreshPromise r → FreshPromise s → r ≡ s
-fresh_unique p q = p ∙ sym q
+fresh_unique p q = p.0 ∙ sym q.0
 
 module _ (plan : Plan) where
   pub load_unique : (jobs : Jobs) (capacity : ℤ) {r s : Loaded} → LoadPromise plan jobs capacity r → LoadPromise plan jobs capacity s → r ≡ s
-  load_unique jobs capacity p q = p ∙ sym q
+  load_unique jobs capacity p q = p.0 ∙ sym q.0
 
   pub update_unique : (id earliest latest : ℤ) {r s : Updated} → UpdatePromise plan id earliest latest r → UpdatePromise plan id earliest latest s → r ≡ s
-  update_unique id earliest latest p q = p ∙ sym q
+  update_unique id earliest latest p q = p.0 ∙ sym q.0
 
   pub fit_unique : (id : ℤ) {r s : Result (Option ℤ) Refusal} → FitPromise plan id r → FitPromise plan id s → r ≡ s
   fit_unique id p q = p ∙ sym q

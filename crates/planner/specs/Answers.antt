@@ -50,6 +50,10 @@ swept_plan capacity ts =
           };
     }
 
+-- a plan afterwards, with what is answered of it
+abbrev pub outcome_with : Plan → Result Answer Refusal × RowRecord → Updated
+outcome_with plan said = record { answer = said.0; row = said.1; plan = plan }
+
 -- a refusal leaves the plan as it was
 abbrev pub refused_update : Plan → Refusal → Updated
 refused_update plan why = record { answer = Err why; row = no_record; plan = plan }

@@ -7,7 +7,6 @@ pub mod Bounds
 pub mod Given
 pub mod Kept
 pub mod Records
-pub mod Contents
 pub mod Sound
 pub mod Answers
 pub mod Loads

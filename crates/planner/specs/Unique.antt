@@ -8,6 +8,7 @@ use Rattle.planner.specs.declared.RowRecord.{RowRecord}
 use Rattle.planner.specs.declared.Rows.{Rows}
 use Rattle.planner.specs.declared.Updated.{Updated}
 use Rattle.planner.specs.declared.Loaded.{Loaded}
+use Rattle.planner.specs.Sound.{Sound}
 use Rattle.planner.specs.Refusals.{number_of}
 use Rattle.planner.specs.Kept.{jobs_with, keeping}
 use Rattle.planner.specs.Records.{no_record}
@@ -17,13 +18,13 @@ use Rattle.planner.specs.Updates.{updated}
 use Rattle.planner.specs.Questions.{fit_of, rows_shown}
 
 abbrev pub FreshPromise : Plan → Type 0
-FreshPromise r = r ≡ fresh_plan
+FreshPromise r = (r ≡ fresh_plan) × Sound r
 
 abbrev pub LoadPromise : Plan → Jobs → ℤ → Loaded → Type 0
-LoadPromise plan jobs capacity r = r ≡ loaded plan jobs capacity
+LoadPromise plan jobs capacity r = (r ≡ loaded plan jobs capacity) × Sound r.plan
 
 abbrev pub UpdatePromise : Plan → ℤ → ℤ → ℤ → Updated → Type 0
-UpdatePromise plan id earliest latest r = r ≡ updated plan id earliest latest
+UpdatePromise plan id earliest latest r = (r ≡ updated plan id earliest latest) × Sound r.plan
 
 abbrev pub FitPromise : Plan → ℤ → Result (Option ℤ) Refusal → Type 0
 FitPromise plan id r = r ≡ fit_of plan id

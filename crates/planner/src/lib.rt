@@ -18,37 +18,23 @@ ghost use Rattle.planner.specs.Ranges.{last_start};
 ghost use Rattle.planner.specs.Records.{ids_of};
 ghost use Rattle.planner.specs.Refusals.{number_of};
 
-use std::marker::Model;
 use sweep::Tasks;
 use time_table::{Row, Table};
 
 // A plan: the time-table, the tasks by id, the capacity, and whether the table is live or stale. A
-// stale table has no rows. Every plan is sound.
+// stale table has no rows.
 //
 // Here and in what holds a table, a plan or rows, the large field comes first: the compiler makes fewer
 // copies of such a struct than of one that starts with a small field.
 //
+// Stays as it is: that a plan is sound (`Sound`) is a clause, and no invariant of the type. A struct that holds a
+// value of a type with one is not copied where it is passed by value and used again (docs/DECISIONS.md).
 #[derive(Clone, Copy)]
 pub struct Plan {
     pub(crate) table: Table,
     pub(crate) tasks: Tasks,
     pub(crate) capacity: u32,
     pub(crate) live: bool,
-}
-
-// A contract sees a plan's contents, and may take every plan for sound.
-impl Model for Plan {
-    ghost use Rattle.planner.specs.Contents.{Contents};
-
-    ghost Value = { Contents };
-
-    ghost use Rattle.planner.specs.Sound.{Sound};
-
-    ghost view = { λ p. record { table = p.table; tasks = p.tasks; capacity = p.capacity; live = p.live } };
-
-    ghost invariant = { λ p. Sound (record { table = p.table; tasks = p.tasks; capacity = p.capacity; live = p.live }) };
-
-    ghost inverse = { λ p. record { table = p.table; tasks = p.tasks; capacity = p.capacity; live = p.live } };
 }
 
 impl Plan {

@@ -2,6 +2,7 @@
 ghost use Rattle.std.specs.Prelude.{◌≡◌, Ok, map};
 ghost use Rattle.sweep.specs.Tasks.{tasks_with};
 ghost use Rattle.planner.specs.Checks.{job_checked, capacity_checked};
+ghost use Rattle.planner.specs.Sound.{Sound};
 ghost use Rattle.planner.specs.Loads.{jobs_of, task_of, load_checked, accepted_load, refused_load, loaded, Loadable};
 
 use crate::{Job, Jobs, Loaded, Plan, Refusal, border, plans, update};
@@ -48,7 +49,8 @@ pub(crate) fn tasks_of(jobs: Jobs) -> Tasks
 // An accepted load: the tasks of the jobs, swept.
 pub(crate) fn accepted_load(jobs: Jobs, capacity: i32) -> Loaded
     requires { Loadable jobs × (capacity_checked capacity ≡ Ok tt) }
-    ensures { result ≡ accepted_load jobs capacity }
+    ensures value { result ≡ accepted_load jobs capacity }
+    ensures sound { Sound result.plan }
 {
     let created = create_tasks(tasks_of(jobs));
     let placed = created.placed;
@@ -65,7 +67,9 @@ pub(crate) fn refused_load(plan: Plan, why: Refusal) -> Loaded
 impl Plan {
     // Replaces the plan by that of these jobs, and answers whether the supply is overloaded.
     pub fn load(self, jobs: Jobs, capacity: i32) -> Loaded
-        ensures { result ≡ loaded self jobs capacity }
+        requires { Sound self }
+        ensures value { result ≡ loaded self jobs capacity }
+        ensures sound { Sound result.plan }
     {
         match check_load(jobs, capacity) {
             Err(why) => refused_load(self, why),

@@ -2,7 +2,7 @@
 ghost use Rattle.std.specs.Prelude.{◌≡◌, ◌≤◌};
 ghost use Rattle.sweep.specs.Tasks.{tasks_of};
 ghost use Rattle.planner.specs.Ranges.{max_capacity};
-ghost use Rattle.planner.specs.Sound.{SoundTasks};
+ghost use Rattle.planner.specs.Sound.{SoundTasks, Sound};
 ghost use Rattle.planner.specs.Answers.{fresh_plan, swept_plan};
 
 use crate::{Answer, Plan, Updated, records};
@@ -13,7 +13,8 @@ use time_table::Table;
 impl Plan {
     // A plan without tasks.
     pub fn fresh() -> Plan
-        ensures { result ≡ fresh_plan }
+        ensures value { result ≡ fresh_plan }
+        ensures sound { Sound result }
     {
         Plan {
             table: Table::empty(),
@@ -27,7 +28,8 @@ impl Plan {
 // The answer and the plan where these tasks are swept.
 pub(crate) fn swept_plan(capacity: u32, tasks: Tasks) -> Updated
     requires { SoundTasks tasks × (capacity ≤ max_capacity) }
-    ensures { result ≡ swept_plan capacity (tasks_of tasks) }
+    ensures value { result ≡ swept_plan capacity (tasks_of tasks) }
+    ensures sound { Sound result.plan }
 {
     match create_time_table_over_interval_from_scratch(tasks, capacity) {
         Ok(table) => Updated {

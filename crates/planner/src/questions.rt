@@ -1,6 +1,7 @@
 // What a plan is asked: the first fit of a task, and the rows.
 ghost use Rattle.std.specs.Prelude.{◌≡◌, ◌<◌, IfOk};
 ghost use Rattle.planner.specs.Ranges.{last_end};
+ghost use Rattle.planner.specs.Sound.{Sound};
 ghost use Rattle.planner.specs.Questions.{fit_of, rows_shown};
 ghost use Rattle.planner.specs.Shown.{Shown};
 
@@ -11,6 +12,7 @@ impl Plan {
     // The smallest start within a task's bounds at which its run fits beside what the table holds, if
     // there is one.
     pub fn first_fit(&self, id: i32) -> Result<Option<i32>, Refusal>
+        requires { Sound self.now }
         ensures { result ≡ fit_of self.now id }
     {
         let place = border::place_of(self.tasks.count, id).ok_or(Refusal::UnknownTask)?;
@@ -29,6 +31,7 @@ impl Plan {
 
     // The rows of the table, in signed instants.
     pub fn rows(&self) -> Result<Rows, Refusal>
+        requires { Sound self.now }
         ensures value { result ≡ rows_shown self.now }
         ensures shown { IfOk result Shown }
     {

@@ -55,7 +55,7 @@ pub fn pass_planner_run(script: &[i32], answers: &mut [i32]) -> usize
                 out.put_answer(state.answer, state.row);
             }
             Command::Update(id, earliest, latest) => {
-                state = state.plan.update(id, earliest, latest);
+                state.change(id, earliest, latest);
                 out.put_answer(state.answer, state.row);
             }
             Command::FirstFit(id) => out.put_fit(state.plan.first_fit(id)),

@@ -2,20 +2,22 @@
 -- Assumes nothing.
 use mathlib.Core.Path.{◌≡◌, refl, sym, ap, ◌∙◌, subst}
 use mathlib.Core.List.{List, [], ◌∷◌}
-use Prim.Native.Nat.{◌<◌}
+use Prim.Native.Nat.{ℕ, ◌+◌, ◌<◌}
 use borrow.Author.Tests.{lt-ltb, le-ltb}
 use mir.Syntax.{w32}
 use mir.Facts.{to_z-of_z}
 use lib.IntN.{ℤ}
-use lib.ListN.{length}
+use lib.ListN.{length, set}
 use Rattle.std.proofs.Common.{arith, rules}
 use Rattle.std.proofs.lemmas.Bool.Decides.{nat_tests}
+use Rattle.planner.specs.declared.Job.{Job}
 use Rattle.planner.specs.declared.Jobs.{Jobs}
 use Rattle.planner.specs.declared.Plan.{Plan}
 use Rattle.planner.specs.declared.Updated.{Updated}
 use Rattle.planner.specs.History.{without_places}
 use Rattle.planner.specs.Kept.{keeping}
 use Rattle.planner.specs.Loads.{loaded}
+use Rattle.planner.specs.Sound.{Sound}
 use Rattle.planner.specs.Updates.{updated}
 use Rattle.script.specs.declared.Command.{Command}
 use Rattle.script.specs.declared.Command.TheVariants.{Keep}
@@ -34,7 +36,7 @@ use Rattle.script.proofs.pass_planner_run.Goals.{After-next_command-command}
 pub loop-rest-init : goal.loop-rest-init
 unfolding run
 loop-rest-init c =
-    record { slice = refl; answered = rw (c.fresh.ensures, c.empty-jobs.ensures) refl }
+    record { slice = refl; sound = c.fresh.ensures.sound; answered = rw (c.fresh.ensures.value, c.empty-jobs.ensures) refl }
 
 -- what a turn leaves, where the command that was read is answered
 turned : (c : After-next_command-command) {after : Writer} {plan' : Plan} {jobs' : Jobs} {found : Command}
@@ -42,46 +44,54 @@ turned : (c : After-next_command-command) {after : Writer} {plan' : Plan} {jobs'
     → Written c.loop-rest.out (said c.loop-rest.state.plan c.loop-rest.jobs found) after
     → plan' ≡ plan_after_command c.loop-rest.state.plan c.loop-rest.jobs found
     → jobs' ≡ kept_after c.loop-rest.jobs found
+    → Sound plan'
     → record {
       slice : after.out.ghost_name ≡ c.new-out.result.out.ghost_name;
+      sound : Sound plan';
       answered : puts (page c.new-out.result) (run c.args.script.now) ≡ puts (page after) (answers_of plan' jobs' 0 c.next_command-command.result.1.now);
     }
-turned c is wrote led keeps =
+turned c is wrote led keeps sound =
     let old = c.loop-rest.invariant in
     let read = c.next_command-command.ensures in
     let more : 0 < length c.loop-rest.rest.now = grind (arith, nat_tests) in
     record {
       slice = wrote.slice ∙ old.slice;
+      sound = sound;
       answered = turn c.loop-rest.state.plan c.loop-rest.jobs c.loop-rest.rest.now more read.command read.rest is old.answered wrote led keeps;
     }
+
+-- a job that there is room for is kept behind the others
+kept_more : (jobs : Jobs) (job : Job) {n : ℕ} → jobs.count < 32 → n ≡ jobs.count + 1 → record { list = set jobs.list jobs.count job; count = n } ≡ kept_after jobs (Keep job)
+unfolding keeping
+kept_more jobs job room more = rw (lt-ltb _ _ room, more) refl
 
 pub loop-rest-preserved-then-jobs-lt-JOBS : goal.loop-rest-preserved-then-jobs-lt-JOBS
 unfolding keep_numbers keeping
 loop-rest-preserved-then-jobs-lt-JOBS c =
     let room = lt-ltb _ _ c.if-jobs-lt-JOBS.true in
     let wrote : Written c.loop-rest.out (said c.loop-rest.state.plan c.loop-rest.jobs (Keep c.in-Keep.job)) c.loop-rest.out = rw room (wrote_none _) in
-    turned (goal.at.loop-rest-preserved-then-jobs-lt-JOBS c).After-next_command-command c.in-Keep.is wrote refl (rw room refl)
+    turned (goal.at.loop-rest-preserved-then-jobs-lt-JOBS c).After-next_command-command c.in-Keep.is wrote refl (kept_more c.loop-rest.jobs c.in-Keep.job c.if-jobs-lt-JOBS.true (omega arith)) c.loop-rest.invariant.sound
 
 pub loop-rest-preserved-in-Keep-2 : goal.loop-rest-preserved-in-Keep-2
 unfolding keep_numbers
 loop-rest-preserved-in-Keep-2 c =
     let full = le-ltb _ _ c.if-jobs-lt-JOBS.false in
     let wrote : Written c.loop-rest.out (said c.loop-rest.state.plan c.loop-rest.jobs (Keep c.in-Keep-2.field-0)) c.put_refusal.new.self = rw full c.put_refusal.ensures in
-    turned (goal.at.loop-rest-preserved-in-Keep-2 c).After-next_command-command c.in-Keep-2.is wrote refl (rw full refl)
+    turned (goal.at.loop-rest-preserved-in-Keep-2 c).After-next_command-command c.in-Keep-2.is wrote refl (rw full refl) c.loop-rest.invariant.sound
 
 pub loop-rest-preserved-in-Load : goal.loop-rest-preserved-in-Load
 loop-rest-preserved-in-Load c =
     let capacity = to_z-of_z {w = w32} {z = c.in-Load.capacity} (record { sfits = search rules }) in
-    let led = c.from-state.ensures ∙ ap without_places (c.load.ensures ∙ ap (loaded c.loop-rest.state.plan c.loop-rest.jobs) capacity) in
+    let led = c.from-state.ensures ∙ ap without_places (c.load.ensures.value ∙ ap (loaded c.loop-rest.state.plan c.loop-rest.jobs) capacity) in
     turned (goal.at.loop-rest-preserved-in-Load c).After-next_command-command c.in-Load.is
     (subst (λ (u : Updated). Written c.loop-rest.out (answer_numbers u.answer u.row) c.put_answer.new.self) led c.put_answer.ensures)
-    (ap (λ (u : Updated). u.plan) led) c.empty-jobs-in-Load.ensures
+    (ap (λ (u : Updated). u.plan) led) c.empty-jobs-in-Load.ensures (rw c.from-state.ensures c.load.ensures.sound)
 
 pub loop-rest-preserved-in-Update : goal.loop-rest-preserved-in-Update
 loop-rest-preserved-in-Update c =
     let z = c.in-Update in
     let led =
-    c.update-state.ensures
+    c.change.ensures.value
     ∙ (λ i.
     updated c.loop-rest.state.plan
     (to_z-of_z {w = w32} {z = z.id} (record { sfits = search rules }) i)
@@ -89,23 +99,23 @@ loop-rest-preserved-in-Update c =
     (to_z-of_z {w = w32} {z = z.latest} (record { sfits = search rules }) i)) in
     turned (goal.at.loop-rest-preserved-in-Update c).After-next_command-command z.is
     (subst (λ (u : Updated). Written c.loop-rest.out (answer_numbers u.answer u.row) c.put_answer-in-Update.new.self) led c.put_answer-in-Update.ensures)
-    (ap (λ (u : Updated). u.plan) led) refl
+    (ap (λ (u : Updated). u.plan) led) refl c.change.ensures.sound
 
 pub loop-rest-preserved-in-FirstFit : goal.loop-rest-preserved-in-FirstFit
 loop-rest-preserved-in-FirstFit c =
     let id = to_z-of_z {w = w32} {z = c.in-FirstFit.id} (record { sfits = search rules }) in
     turned (goal.at.loop-rest-preserved-in-FirstFit c).After-next_command-command c.in-FirstFit.is
-    (rw (c.first_fit.ensures, id) at c.put_fit.ensures) refl refl
+    (rw (c.first_fit.ensures, id) at c.put_fit.ensures) refl refl c.loop-rest.invariant.sound
 
 pub loop-rest-preserved-in-Rows : goal.loop-rest-preserved-in-Rows
 loop-rest-preserved-in-Rows c =
     turned (goal.at.loop-rest-preserved-in-Rows c).After-next_command-command c.in-Rows.is
-    (rw c.rows.ensures.value at c.put_rows.ensures) refl refl
+    (rw c.rows.ensures.value at c.put_rows.ensures) refl refl c.loop-rest.invariant.sound
 
 pub loop-rest-preserved : goal.loop-rest-preserved
 loop-rest-preserved c =
     turned (goal.at.loop-rest-preserved c).After-next_command-command c.in-Unreadable.is
-    c.put_refusal-in-Unreadable.ensures refl refl
+    c.put_refusal-in-Unreadable.ensures refl refl c.loop-rest.invariant.sound
 
 -- nothing is left of the script: the answers are written
 done : {all now : Page} (plan : Plan) (jobs : Jobs) (rest : List ℤ) → length rest ≡ 0 → all ≡ puts now (answers_of plan jobs 0 rest) → now ≡ all

@@ -11,7 +11,6 @@ use mir.Val.{SFits, to_z, of_z}
 use mir.Facts.{to_z-of_z}
 use Rattle.std.proofs.lemmas.Result.{err_from_is_err_and}
 use Rattle.planner.specs.declared.Plan.{Plan}
-use Rattle.planner.specs.declared.Plan.TheView.{view}
 use Rattle.planner.specs.declared.Refusal.{Refusal}
 use Rattle.planner.specs.declared.Refusal.TheVariants.{UnknownTask}
 use Rattle.planner.specs.Instants.{instant, amount}
@@ -47,40 +46,39 @@ pub returns-in_err-place : goal.returns-in_err-place
 returns-in_err-place c =
     let n = no_place c.place_of.result c.in_err-place.field-0.0 (sym c.ok_or.ensures.value ∙ c.in_err-place.was) in
     let e = err_from_is_err_and c.from_residual.result c.from_residual.ensures.1 in
-    let none = place_unknown c.self.inside.tasks.count c.args.id (rw (to_z-of_z c.ranges.id) at (sym c.place_of.ensures ∙ n.0)) in
-    rw (← c.self.view_is, fit_unknown (view c.self.inside) c.args.id none) (e.1 ∙ ap Err (e.2 ∙ n.1))
+    let none = place_unknown c.args.self.now.tasks.count c.args.id (rw (to_z-of_z c.ranges.id) at (sym c.place_of.ensures ∙ n.0)) in
+    rw (fit_unknown c.args.self.now c.args.id none) (e.1 ∙ ap Err (e.2 ∙ n.1))
 
 pub returns-then-not-self : goal.returns-then-not-self
 returns-then-not-self c =
-    let p = place (view c.self.inside) c.args.id c.in_ok-place.place c.ranges.id c.place_of.ensures c.ok_or.ensures.value c.in_ok-place.was in
-    rw (← c.self.view_is) (sym (fit_stale (view c.self.inside) c.args.id p.0 c.if-not-self.true))
+    let p = place c.args.self.now c.args.id c.in_ok-place.place c.ranges.id c.place_of.ensures c.ok_or.ensures.value c.in_ok-place.was in
+    sym (fit_stale c.args.self.now c.args.id p.0 c.if-not-self.true)
 
-pub offset_bounds-self-inside-place : goal.offset_bounds-self-inside-place
-offset_bounds-self-inside-place c =
-    let p = place (view c.self.inside) c.args.id c.in_ok-place.place c.ranges.id c.place_of.ensures c.ok_or.ensures.value c.in_ok-place.was in
-    omega (arith, known_true c.self.inside.tasks.count c.args.id p.0, c.self.invariant.tasks.held.fits)
+pub offset_bounds-self-place : goal.offset_bounds-self-place
+offset_bounds-self-place c =
+    let p = place c.args.self.now c.args.id c.in_ok-place.place c.ranges.id c.place_of.ensures c.ok_or.ensures.value c.in_ok-place.was in
+    omega (arith, known_true c.args.self.now.tasks.count c.args.id p.0, c.requires.tasks.held.fits)
 
-pub bounds-self-inside-place : goal.bounds-self-inside-place
-bounds-self-inside-place c =
-    let p = place (view c.self.inside) c.args.id c.in_ok-place.place c.ranges.id c.place_of.ensures c.ok_or.ensures.value c.in_ok-place.was in
-    omega (arith, known_true c.self.inside.tasks.count c.args.id p.0, c.self.invariant.tasks.held.fits)
+pub bounds-self-place : goal.bounds-self-place
+bounds-self-place c =
+    let p = place c.args.self.now c.args.id c.in_ok-place.place c.ranges.id c.place_of.ensures c.ok_or.ensures.value c.in_ok-place.was in
+    omega (arith, known_true c.args.self.now.tasks.count c.args.id p.0, c.requires.tasks.held.fits)
 
 pub first_fit-requires : goal.first_fit-requires
 first_fit-requires c =
-    let p = place (view c.self.inside) c.args.id c.in_ok-place.place c.ranges.id c.place_of.ensures c.ok_or.ensures.value c.in_ok-place.was in
-    rw (c.lasts.ensures, p.1, asked_read (view c.self.inside) c.args.id p.0)
-    (askable (view c.self.inside) c.args.id p.0 c.self.invariant c.if-not-self.false)
+    let p = place c.args.self.now c.args.id c.in_ok-place.place c.ranges.id c.place_of.ensures c.ok_or.ensures.value c.in_ok-place.was in
+    rw (c.lasts.ensures, p.1, asked_read c.args.self.now c.args.id p.0)
+    (askable c.args.self.now c.args.id p.0 c.requires c.if-not-self.false)
 
 pub map-requires : goal.map-requires
 map-requires c =
-    let p = place (view c.self.inside) c.args.id c.in_ok-place.place c.ranges.id c.place_of.ensures c.ok_or.ensures.value c.in_ok-place.was in
-    λ x e. start_low (view c.self.inside) c.args.id p.0 c.self.invariant c.if-not-self.false x
-    (rw (c.lasts.ensures, p.1, asked_read (view c.self.inside) c.args.id p.0) at (sym c.first_fit.ensures ∙ e))
+    let p = place c.args.self.now c.args.id c.in_ok-place.place c.ranges.id c.place_of.ensures c.ok_or.ensures.value c.in_ok-place.was in
+    λ x e. start_low c.args.self.now c.args.id p.0 c.requires c.if-not-self.false x
+    (rw (c.lasts.ensures, p.1, asked_read c.args.self.now c.args.id p.0) at (sym c.first_fit.ensures ∙ e))
 
 pub returns : goal.returns
 returns c =
-    let p = place (view c.self.inside) c.args.id c.in_ok-place.place c.ranges.id c.place_of.ensures c.ok_or.ensures.value c.in_ok-place.was in
-    let found = rw (c.lasts.ensures, p.1, asked_read (view c.self.inside) c.args.id p.0) at c.first_fit.ensures in
-    rw (← c.self.view_is)
-    (ap Ok (mapped c.first_fit.result c.map.result c.map.ensures.cases ∙ ap start_of found)
-    ∙ sym (fit_asked (view c.self.inside) c.args.id p.0 c.if-not-self.false))
+    let p = place c.args.self.now c.args.id c.in_ok-place.place c.ranges.id c.place_of.ensures c.ok_or.ensures.value c.in_ok-place.was in
+    let found = rw (c.lasts.ensures, p.1, asked_read c.args.self.now c.args.id p.0) at c.first_fit.ensures in
+    ap Ok (mapped c.first_fit.result c.map.result c.map.ensures.cases ∙ ap start_of found)
+    ∙ sym (fit_asked c.args.self.now c.args.id p.0 c.if-not-self.false)

@@ -5,7 +5,4 @@ use Rattle.planner.proofs.Fresh.{fresh_sound}
 use Rattle.planner.proofs.Plan.fresh.Goals as goal
 
 pub returns : goal.returns
-returns c = rw (c.empty.ensures, c.empty-2.ensures) refl
-
-pub invariant_of-result : goal.invariant_of-result
-invariant_of-result c = rw (c.empty.ensures, c.empty-2.ensures) fresh_sound
+returns c = rw (c.empty.ensures, c.empty-2.ensures) (record { value = refl; sound = fresh_sound })

@@ -23,9 +23,17 @@ accepted_load-requires c =
 
 pub returns-in-Err : goal.returns-in-Err
 returns-in-Err c =
-    c.refused_load.ensures ∙ sym (load_by c.args.self c.args.jobs c.args.capacity _ (found c.args.jobs c.args.capacity c.ranges.capacity c.in-Err.ensures))
+    record {
+      value =
+          c.refused_load.ensures ∙ sym (load_by c.args.self c.args.jobs c.args.capacity _ (found c.args.jobs c.args.capacity c.ranges.capacity c.in-Err.ensures));
+      sound = rw c.refused_load.ensures c.requires;
+    }
 
 pub returns-in-Ok : goal.returns-in-Ok
 returns-in-Ok c =
-    c.accepted_load.ensures ∙ ap (accepted_load c.args.jobs) (to_z-of_z c.ranges.capacity)
-    ∙ sym (load_by c.args.self c.args.jobs c.args.capacity (Ok tt) (found c.args.jobs c.args.capacity c.ranges.capacity c.in-Ok.ensures))
+    record {
+      value =
+          c.accepted_load.ensures.value ∙ ap (accepted_load c.args.jobs) (to_z-of_z c.ranges.capacity)
+          ∙ sym (load_by c.args.self c.args.jobs c.args.capacity (Ok tt) (found c.args.jobs c.args.capacity c.ranges.capacity c.in-Ok.ensures));
+      sound = c.accepted_load.ensures.sound;
+    }

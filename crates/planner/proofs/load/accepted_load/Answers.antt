@@ -45,6 +45,9 @@ pub returns : goal.returns
 unfolding accepted_load
 returns c =
     let u : c.swept_plan.result ≡ swept_plan (amount c.args.capacity) (created (map task_of (jobs_of c.args.jobs))) =
-    c.swept_plan.ensures ∙ (λ i. swept_plan (number c.args.capacity c.ranges.capacity c.amount_of.ensures i) (tasks c.args.jobs c.tasks_of.result c.create_tasks-created.result c.tasks_of.ensures c.create_tasks-created.ensures i)) in
+    c.swept_plan.ensures.value ∙ (λ i. swept_plan (number c.args.capacity c.ranges.capacity c.amount_of.ensures i) (tasks c.args.jobs c.tasks_of.result c.create_tasks-created.result c.tasks_of.ensures c.create_tasks-created.ensures i)) in
     let made-of = made c.args.jobs c.tasks_of.result c.create_tasks-created.result c.tasks_of.ensures c.create_tasks-created.ensures in
-    c.with_places.ensures ∙ (λ i. with_places (made-of i).placed (u i))
+    record {
+      value = c.with_places.ensures ∙ (λ i. with_places (made-of i).placed (u i));
+      sound = rw c.with_places.ensures c.swept_plan.ensures.sound;
+    }

@@ -16,7 +16,6 @@ use Rattle.sweep.specs.declared.Task.{Task}
 use Rattle.sweep.specs.declared.Tasks.{Tasks}
 use Rattle.sweep.specs.Tasks.{no_task, tasks_of, task_at, part_of}
 use Rattle.planner.specs.declared.Plan.{Plan}
-use Rattle.planner.specs.declared.Plan.TheView.{view}
 use Rattle.planner.specs.declared.Bounds.{Bounds}
 use Rattle.planner.specs.declared.RowRecord.{RowRecord}
 use Rattle.planner.specs.declared.Updated.{Updated}
@@ -29,7 +28,7 @@ use Rattle.planner.specs.Updates.{bounded, accepted_update}
 use Rattle.planner.proofs.AnswerAndPlan.{live_sound, shown_low, live_is}
 use Rattle.planner.proofs.UpdatedPlan.{read_is, updatable, stored, stored_sound, edit_full, edit_live, edit_whole}
 use Rattle.planner.proofs.update.live_update.Goals as goal
-use Rattle.planner.proofs.update.live_update.Goals.{After-update_time_table-edited, in-Ok, in-None, in-Some, in-Err}
+use Rattle.planner.proofs.update.live_update.Goals.{After-update_time_table-edited}
 
 -- what an edit that has room leaves: k in the place of the task i, and the table t
 record Edited (plan : Plan) (i : ℕ) (b : Bounds) (k : Task) (t : Table) : Type 0 where
@@ -105,27 +104,27 @@ module _ (plan : Plan) (s : Sound plan) (i : ℕ) (b : Bounds) (lt : i < plan.ta
 
 pub update_time_table-edited-requires : goal.update_time_table-edited-requires
 update_time_table-edited-requires c =
-    let q = rw (← c.plan.view_is) at c.requires in
-    can (view c.plan.inside) c.plan.invariant c.args.id c.args.bounds q.1 c.rebounded-new.result c.rebounded-new.ensures
-    c.mandatory_part.result c.mandatory_part-2.result c.mandatory_part.ensures c.mandatory_part-2.ensures q.0
+    let q = c.requires in
+    can c.args.plan.now c.requires.0 c.args.id c.args.bounds q.2 c.rebounded-new.result c.rebounded-new.ensures
+    c.mandatory_part.result c.mandatory_part-2.result c.mandatory_part.ensures c.mandatory_part-2.ensures q.1
 
 -- the edit at the code's place behind it, where it has room
 roomy : (c : After-update_time_table-edited)
-    → updated c.mandatory_part.result c.mandatory_part-2.result (view c.plan.inside).table ≡ Ok c.update_time_table-edited.new.table
-    → Edited (view c.plan.inside) c.args.id c.args.bounds c.rebounded-new.result c.update_time_table-edited.new.table
+    → updated c.mandatory_part.result c.mandatory_part-2.result c.args.plan.now.table ≡ Ok c.update_time_table-edited.new.table
+    → Edited c.args.plan.now c.args.id c.args.bounds c.rebounded-new.result c.update_time_table-edited.new.table
 roomy c edited =
-    let q = rw (← c.plan.view_is) at c.requires in
-    done (view c.plan.inside) c.plan.invariant c.args.id c.args.bounds q.1 c.rebounded-new.result c.rebounded-new.ensures
-    c.mandatory_part.result c.mandatory_part-2.result c.mandatory_part.ensures c.mandatory_part-2.ensures c.update_time_table-edited.new.table edited q.0
+    let q = c.requires in
+    done c.args.plan.now c.requires.0 c.args.id c.args.bounds q.2 c.rebounded-new.result c.rebounded-new.ensures
+    c.mandatory_part.result c.mandatory_part-2.result c.mandatory_part.ensures c.mandatory_part-2.ensures c.update_time_table-edited.new.table edited q.1
 
 -- and where it has none
 refused : (c : After-update_time_table-edited) (why : TooManyRows)
-    → (updated c.mandatory_part.result c.mandatory_part-2.result (view c.plan.inside).table ≡ Err why) × (c.update_time_table-edited.new.table ≡ (view c.plan.inside).table)
-    → Full (view c.plan.inside) c.args.id c.args.bounds c.update_time_table-edited.new.table
+    → (updated c.mandatory_part.result c.mandatory_part-2.result c.args.plan.now.table ≡ Err why) × (c.update_time_table-edited.new.table ≡ c.args.plan.now.table)
+    → Full c.args.plan.now c.args.id c.args.bounds c.update_time_table-edited.new.table
 refused c why edited =
-    let q = rw (← c.plan.view_is) at c.requires in
-    full (view c.plan.inside) c.plan.invariant c.args.id c.args.bounds q.1 c.rebounded-new.result c.rebounded-new.ensures
-    c.mandatory_part.result c.mandatory_part-2.result c.mandatory_part.ensures c.mandatory_part-2.ensures c.update_time_table-edited.new.table why edited q.0
+    let q = c.requires in
+    full c.args.plan.now c.requires.0 c.args.id c.args.bounds q.2 c.rebounded-new.result c.rebounded-new.ensures
+    c.mandatory_part.result c.mandatory_part-2.result c.mandatory_part.ensures c.mandatory_part-2.ensures c.update_time_table-edited.new.table why edited q.1
 
 pub find_conflicting_profile-requires : goal.find_conflicting_profile-requires
 find_conflicting_profile-requires c = (roomy (goal.at.find_conflicting_profile-requires c).After-update_time_table-edited c.in-Ok.ensures).clean
@@ -134,21 +133,17 @@ pub record_of-requires : goal.record_of-requires
 record_of-requires c =
     (roomy (goal.at.record_of-requires c).After-update_time_table-edited c.in-Ok.ensures).low c.find_conflicting_profile.result c.find_conflicting_profile.ensures c.in-Some.row c.in-Some.is
 
-pub invariant_of-plan-in-Ok : goal.invariant_of-plan-in-Ok
-invariant_of-plan-in-Ok c = (roomy (goal.at.invariant_of-plan-in-Ok c).After-update_time_table-edited c.in-Ok.ensures).kept
+pub returns-in-Err : goal.returns-in-Err
+returns-in-Err c =
+    let e = refused (goal.at.returns-in-Err c).After-update_time_table-edited c.in-Err.field-0 c.in-Err.ensures in
+    record { value = e.value c.no_record.result c.no_record.ensures; sound = rw e.same c.requires.0 }
 
-pub invariant_of-plan : goal.invariant_of-plan
-invariant_of-plan c = rw (refused (goal.at.invariant_of-plan c).After-update_time_table-edited c.in-Err.field-0 c.in-Err.ensures).same c.plan.invariant
+pub returns-in-None : goal.returns-in-None
+returns-in-None c =
+    let e = roomy (goal.at.returns-in-None c).After-update_time_table-edited c.in-Ok.ensures in
+    record { value = e.value None c.in-None.ensures c.no_record-in-None.result c.no_record-in-None.ensures; sound = e.kept }
 
-pub returns : goal.returns
-returns c =
-    let at = (goal.at.returns c).After-update_time_table-edited in
-    rw (← c.plan.view_is) (elim c.match-edited.branch [
-      | in-Ok w ↦
-          let e = roomy at w.in-Ok.ensures in
-          rw (w.plan-is, w.answer-is) (elim w.match-find_conflicting_profile.branch [
-            | in-None v ↦ rw v.answer-is (e.value None v.in-None.ensures v.no_record-in-None.result v.no_record-in-None.ensures)
-            | in-Some v ↦ rw v.answer-is (e.value (Some v.in-Some.row) v.in-Some.ensures v.record_of.result v.record_of.ensures)
-          ])
-      | in-Err w ↦ rw (w.plan-is, w.answer-is) ((refused at w.in-Err.field-0 w.in-Err.ensures).value w.no_record.result w.no_record.ensures)
-    ])
+pub returns-in-Some : goal.returns-in-Some
+returns-in-Some c =
+    let e = roomy (goal.at.returns-in-Some c).After-update_time_table-edited c.in-Ok.ensures in
+    record { value = e.value (Some c.in-Some.row) c.in-Some.ensures c.record_of.result c.record_of.ensures; sound = e.kept }

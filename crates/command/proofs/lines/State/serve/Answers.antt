@@ -15,7 +15,7 @@ use Rattle.command.specs.Grammar.{command_of}
 use Rattle.command.specs.Lines.{served}
 use Rattle.command.proofs.LineBytes.{reader_is}
 use Rattle.command.proofs.CommandOutcomes.{keep_answered, full_answered, load_answered, update_answered, fit_answered, rows_answered, unread_answered, no_jobs_held, keeping_held}
-use Rattle.command.proofs.WrittenText.{written_length, written_none}
+use Rattle.command.proofs.WrittenText.{written_length, written_none, written_at}
 use Rattle.command.proofs.ServedLines.{bytes_from, serving_byte, serving_line, serving_over, serving_full, serving_done}
 use borrow.Author.Rules.{rules}
 use native.Mathlib.Omega.{arith}
@@ -67,7 +67,7 @@ loop-byte-preserved c =
                 (serving_line v c.loop-byte-test.true c.if-answers.false c.if-byte-ne10.false
                 (keep_answered s line asked w.in-Keep.is w.if-jobs-lt-JOBS.true w.keep-jobs.ensures)
                 (written_none c.loop-byte.answers (omega (arith, v.wrote.fits, written_length v.wrote)))
-                (record { jobs = rw w.keep-jobs.ensures (keeping_held s.jobs _ v.ready.jobs w.if-jobs-lt-JOBS.true) }))
+                (record { plan = v.ready.plan; jobs = rw w.keep-jobs.ensures (keeping_held s.jobs _ v.ready.jobs w.if-jobs-lt-JOBS.true) }))
             | in-Keep-2 w ↦
                 rw (c.empty-reader.ensures, w.answers-is, w.last-is, w.jobs-is)
                 (serving_line v c.loop-byte-test.true c.if-answers.false c.if-byte-ne10.false
@@ -77,35 +77,35 @@ loop-byte-preserved c =
             | in-Load w ↦
                 let fits : SFits w32 w.in-Load.capacity = search rules in
                 let led : w.from-last.result ≡ without_places (loaded s.plan s.jobs w.in-Load.capacity) =
-                w.from-last.ensures ∙ ap without_places (w.load.ensures ∙ ap (loaded s.plan s.jobs) (to_z-of_z fits)) in
+                w.from-last.ensures ∙ ap without_places (w.load.ensures.value ∙ ap (loaded s.plan s.jobs) (to_z-of_z fits)) in
                 rw (c.empty-reader.ensures, w.answers-is, w.last-is, w.jobs-is)
                 (serving_line v c.loop-byte-test.true c.if-answers.false c.if-byte-ne10.false
                 (load_answered s line asked w.in-Load.is led w.empty-jobs.ensures)
                 w.put_answer.ensures
-                (record { jobs = rw w.empty-jobs.ensures no_jobs_held }))
+                (record { plan = rw w.from-last.ensures w.load.ensures.sound; jobs = rw w.empty-jobs.ensures no_jobs_held }))
             | in-Update w ↦
                 let id : SFits w32 w.in-Update.id = search rules in
                 let earliest : SFits w32 w.in-Update.earliest = search rules in
                 let latest : SFits w32 w.in-Update.latest = search rules in
-                let led : w.update-last.result ≡ updated s.plan w.in-Update.id w.in-Update.earliest w.in-Update.latest =
-                w.update-last.ensures ∙ (λ i. updated s.plan (to_z-of_z id i) (to_z-of_z earliest i) (to_z-of_z latest i)) in
+                let led : w.change.new.self ≡ updated s.plan w.in-Update.id w.in-Update.earliest w.in-Update.latest =
+                w.change.ensures.value ∙ (λ i. updated s.plan (to_z-of_z id i) (to_z-of_z earliest i) (to_z-of_z latest i)) in
                 rw (c.empty-reader.ensures, w.answers-is, w.last-is, w.jobs-is)
                 (serving_line v c.loop-byte-test.true c.if-answers.false c.if-byte-ne10.false
                 (update_answered s line asked w.in-Update.is led)
                 w.put_answer-in-Update.ensures
-                (record { jobs = v.ready.jobs }))
+                (record { plan = w.change.ensures.sound; jobs = v.ready.jobs }))
             | in-Fit w ↦
                 let fits : SFits w32 w.in-Fit.id = search rules in
                 rw (c.empty-reader.ensures, w.answers-is, w.last-is, w.jobs-is)
                 (serving_line v c.loop-byte-test.true c.if-answers.false c.if-byte-ne10.false
                 (fit_answered s line asked w.in-Fit.is)
-                (rw (w.first_fit.ensures, to_z-of_z fits) at w.put_fit.ensures)
+                (written_at (rw (w.first_fit.ensures, to_z-of_z fits) at w.put_fit.ensures) (omega arith))
                 v.ready)
             | in-Rows w ↦
                 rw (c.empty-reader.ensures, w.answers-is, w.last-is, w.jobs-is)
                 (serving_line v c.loop-byte-test.true c.if-answers.false c.if-byte-ne10.false
                 (rows_answered s line asked w.in-Rows.is)
-                (rw w.rows.ensures.value at w.put_table.ensures)
+                (written_at (rw w.rows.ensures.value at w.put_table.ensures) (omega arith))
                 v.ready)
             | in-Unreadable w ↦
                 rw (c.empty-reader.ensures, w.answers-is, w.last-is, w.jobs-is)
