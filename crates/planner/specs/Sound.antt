@@ -1,5 +1,5 @@
 -- A plan that is sound: its tasks are within the limits, and a live table is right for them.
--- Each plan is: it is the invariant of the type (src/lib.rt), and only this crate makes plans.
+-- Only this crate makes plans, and each that it hands out is sound.
 use Rattle.std.specs.Prelude.{◌≡◌, true, false, [], ℕ, ◌≤◌, ◌<◌}
 use Rattle.time_table.specs.declared.Table.{Table}
 use Rattle.time_table.specs.Rows.{rows_of, table_of, Clean}
