@@ -5,6 +5,7 @@
 pub mod controller;
 pub mod in_place;
 pub mod rows;
+pub mod sound;
 
 ghost use Rattle.std.specs.Prelude.{◌≡◌};
 

@@ -7,6 +7,7 @@ pub mod load;
 mod plans;
 pub mod questions;
 pub mod records;
+pub mod sound;
 pub mod update;
 
 ghost use Rattle.std.specs.Prelude.{◌≡◌, ◌≤◌, []};
@@ -27,8 +28,9 @@ use time_table::{Row, Table};
 // Here and in what holds a table, a plan or rows, the large field comes first: the compiler makes fewer
 // copies of such a struct than of one that starts with a small field.
 //
-// Stays as it is: that a plan is sound (`Sound`) is a clause, and no invariant of the type. A struct that holds a
-// value of a type with one is not copied where it is passed by value and used again (docs/DECISIONS.md).
+// Stays as it is: that a plan is sound (`Sound`) is a clause, and no `impl Model` says it of the type. A struct that
+// holds a value of a type with a model is not copied where it is passed by value and used again (docs/DECISIONS.md).
+// The type `sound::Plan`, around a plan, says it.
 #[derive(Clone, Copy)]
 pub struct Plan {
     pub(crate) table: Table,
