@@ -1,9 +1,14 @@
--- No two outcomes meet a call's promise: the promise says what the answer is, and what the lent plan or each place of the lent slice is afterwards.
+-- No two outcomes meet a call's promise: the promise says what the answer is, and what the lent plan or each place of the lent slice is afterwards. The
+-- contract of `sound::copy_rows` is the promise of the plan that its argument holds.
 -- Assumes nothing.
 use mathlib.Core.Path.{◌≡◌, sym, ap, ◌∙◌, subst}
 use mathlib.Core.List.{List}
 use Prim.Native.Nat.{ℕ}
 use lib.IntN.{ℤ}
+use contract.Lifetimes.{Lfts}
+use borrow.Fn.World.{ArgsD}
+use borrow.Fn.Kinds.{ended_of}
+use denote.Triple.Clauses.{AtExit}
 use Rattle.std.specs.Prelude.{Result}
 use Rattle.planner.specs.declared.Jobs.{Jobs}
 use Rattle.planner.specs.declared.Refusal.{Refusal}
@@ -15,6 +20,9 @@ use Rattle.lent.specs.declared.Changed.{Changed}
 use Rattle.lent.specs.declared.Placing.{Placing}
 use Rattle.lent.specs.declared.controller.Controller.{Controller}
 use Rattle.lent.specs.Promises.{LentLoadPromise, LentUpdatePromise, CopyPromise, FreshControllerPromise, BeginPromise, StepPromise}
+use Rattle.lent.specs.contracts.sound.copy_rows as sound-copy-fn
+use Rattle.lent.proofs.sound.copy_rows.Reads as sound-copy
+use Rattle.lent.proofs.sound.copy_rows.Kinds as sound-copy-kinds
 use Rattle.lent.proofs.WithoutPlan.{changed_of, placing_of}
 
 -- the controller that keeps an update
@@ -37,6 +45,11 @@ module _ (plan : Plan) where
   copy_unique out {a = a} p q =
       let same = p.answer ∙ sym q.answer in
       (same, (subst (λ (c : Result ℕ Refusal). CopyPromise plan out c a) same p).slice ∙ sym q.slice)
+
+-- what meets the contract of `sound::copy_rows` meets the promise of a copy
+pub sound_copy_promised : (κs : Lfts 1) (a : ArgsD sound-copy-fn.signature κs) (r : Result ℕ Refusal) (s : AtExit (ended_of 1 sound-copy-kinds.ps sound-copy-kinds.r) κs)
+    → sound-copy.Post κs a r s → CopyPromise a.0.plan a.1.0.now r s.1.0.now
+sound_copy_promised κs a r s meets = meets
 
 pub fresh_controller_unique : {r s : Controller} → FreshControllerPromise r → FreshControllerPromise s → r ≡ s
 fresh_controller_unique p q = p.whole ∙ sym q.whole

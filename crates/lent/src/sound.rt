@@ -15,7 +15,8 @@ pub fn copy_rows(plan: Plan, out: &mut [RowRecord]) -> Result<usize, Refusal>
 
 #[cfg(test)]
 mod tests {
-    // The starts, the rows and the refusals 7 and 9 that are expected are those of the Rust original.
+    // A caller of both crates: he loads a plan, keeps it in a `sound::Plan`, and asks. The starts, the rows and the
+    // refusals 7 and 9 that are expected are those of the Rust original.
     use super::*;
     use planner::{Job, Jobs, records};
 

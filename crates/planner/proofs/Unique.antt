@@ -28,6 +28,12 @@ use Rattle.planner.proofs.Plan.first_fit.Kinds as fit-kinds
 use Rattle.planner.specs.contracts.Plan.rows as rows-fn
 use Rattle.planner.proofs.Plan.rows.Reads as rows
 use Rattle.planner.proofs.Plan.rows.Kinds as rows-kinds
+use Rattle.planner.specs.contracts.sound.Plan.first_fit as sound-fit-fn
+use Rattle.planner.proofs.sound.Plan.first_fit.Reads as sound-fit
+use Rattle.planner.proofs.sound.Plan.first_fit.Kinds as sound-fit-kinds
+use Rattle.planner.specs.contracts.sound.Plan.rows as sound-rows-fn
+use Rattle.planner.proofs.sound.Plan.rows.Reads as sound-rows
+use Rattle.planner.proofs.sound.Plan.rows.Kinds as sound-rows-kinds
 use Rattle.planner.proofs.Jobs.empty.Reads as empty
 use Rattle.planner.proofs.Jobs.keep.Reads as keep
 use Rattle.planner.proofs.Refusal.number.Reads as number
@@ -80,6 +86,15 @@ fit_promised κs a r s meets = meets
 pub rows_promised : (κs : Lfts 1) (a : ArgsD rows-fn.signature κs) (r : Result Rows Refusal) (s : AtExit (ended_of 1 rows-kinds.ps rows-kinds.r) κs)
     → rows.Post κs a r s → RowsPromise a.0.now r × IfOk r Shown
 rows_promised κs a r s meets = meets
+
+-- the same promises of the plan that a `sound::Plan` holds
+pub sound_fit_promised : (κs : Lfts 1) (a : ArgsD sound-fit-fn.signature κs) (r : Result (Option ℤ) Refusal) (s : AtExit (ended_of 1 sound-fit-kinds.ps sound-fit-kinds.r) κs)
+    → sound-fit.Post κs a r s → FitPromise a.0.now.plan a.1.0 r
+sound_fit_promised κs a r s meets = meets
+
+pub sound_rows_promised : (κs : Lfts 1) (a : ArgsD sound-rows-fn.signature κs) (r : Result Rows Refusal) (s : AtExit (ended_of 1 sound-rows-kinds.ps sound-rows-kinds.r) κs)
+    → sound-rows.Post κs a r s → RowsPromise a.0.now.plan r × IfOk r Shown
+sound_rows_promised κs a r s meets = meets
 
 pub empty_promised : (r : Jobs) → empty.Post tt tt r tt → EmptyPromise r
 empty_promised r meets = meets

@@ -8,7 +8,7 @@ pub mod Given
 pub mod Kept
 pub mod Records
 pub mod Sound
-pub mod SoundOnce
+pub mod OneProof
 pub mod Answers
 pub mod Loads
 pub mod Updates

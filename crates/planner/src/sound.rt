@@ -2,7 +2,7 @@
 // update is made of its field `plan`; what comes back is put into a new one: `Plan { plan: loaded.plan }`.
 ghost use Rattle.std.specs.Prelude.{◌≡◌, IfOk};
 ghost use Rattle.planner.specs.Sound.{Sound};
-ghost use Rattle.planner.specs.SoundOnce.{sound_prop};
+ghost use Rattle.planner.specs.OneProof.{sound_prop};
 ghost use Rattle.planner.specs.Questions.{fit_of, rows_shown};
 ghost use Rattle.planner.specs.Shown.{Shown};
 
